@@ -1,0 +1,5 @@
+pub mod Heads
+pub mod Runs
+pub mod Cutting
+pub mod Tables
+pub mod Ends

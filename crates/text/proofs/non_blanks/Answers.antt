@@ -1,0 +1,50 @@
+use Prim.Native.Nat.{_+_, _≤_}
+use mathlib.Core.Bool.{true, false}
+use mathlib.Core.Path.{_≡_, refl, sym, _∙_, ap}
+use native.Mathlib.Omega.{arith}
+use borrow.Author.Needs.{needs}
+use mathlib.Core.Bool.{not}
+use Rattle.text.specs.Chars.{among, blank, not-blank, non-blanks-at, white-space}
+use Rattle.text.proofs.Runs.{going-start, going-more, going-stop, going-none, going-room}
+use Rattle.text.proofs.Tables.{passed, found, missed}
+use Rattle.text.proofs.non_blanks.Needs as need
+
+pub chars-holds : need.chars-holds
+chars-holds c = going-start not-blank (c .args .s .now)
+
+pub loop-b-again : need.loop-b-again
+loop-b-again c = passed (c .in-Some .c) white-space (c .loop-b .b-index) (c .loop-b-test .taken) (c .if-c-b .left) ∙ c .loop-b .inv
+
+pub add-n : need.add-n
+add-n c =
+    let r = going-room not-blank (c .args .s .now) (c .chars .n) (c .chars .inv) (c .in-Some .c) (c .in-Some .ensures tt) in
+    search needs
+
+pub chars-less : need.chars-less
+chars-less c =
+    let r = going-room not-blank (c .args .s .now) (c .chars .n) (c .chars .inv) (c .in-Some .c) (c .in-Some .ensures tt) in
+    let w = c .len-utf8-n .ensures .value in
+    omega arith
+
+pub chars-again : need.chars-again
+unfolding blank
+chars-again c =
+    let b : not-blank (c .in-Some .c) ≡ true
+        = ap not (sym (c .loop-b .inv) ∙ missed (c .in-Some .c) white-space (c .loop-b .b-index) (c .loop-b-test .left)) in
+    going-more not-blank (c .args .s .now) (c .chars .n) (c .chars .inv) (c .in-Some .c) (c .chars .n) (c .len-utf8-n .result)
+    (c .in-Some .ensures tt) b refl (c .len-utf8-n .ensures .value)
+
+pub returns-then-c-b : need.returns-then-c-b
+unfolding blank non-blanks-at
+returns-then-c-b c =
+    let b : not-blank (c .in-Some .c) ≡ false
+        = ap not (sym (c .loop-b .inv) ∙ found (c .in-Some .c) white-space (c .loop-b .b-index) (c .loop-b-test .taken) (c .if-c-b .taken)) in
+    record {
+        value = going-stop not-blank (c .args .s .now) (c .chars .n) (c .chars .inv) (c .in-Some .c) (c .in-Some .ensures tt) b;
+        cut = c .chars .inv .cut
+    }
+
+pub returns-in-rest : need.returns-in-rest
+unfolding non-blanks-at
+returns-in-rest c =
+    record { value = going-none not-blank (c .args .s .now) (c .chars .n) (c .chars .inv) (c .in-rest .ensures tt); cut = c .chars .inv .cut }
