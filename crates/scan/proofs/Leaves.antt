@@ -1,0 +1,19 @@
+-- What every leaf's proof uses: its cut from its value, and the exits of `?`.
+use Prim.Native.Nat.{ℕ}
+use mathlib.Core.List.{List}
+use mathlib.Core.Path.{_≡_, sym, ap, _∙_, subst}
+use Rattle.std.specs.declared.result.Result.{Result}
+use Rattle.std.specs.declared.result.Result.the-variants.{Ok, Err}
+use Rattle.scan.specs.declared.kind.ParseErrorKind.{ParseErrorKind}
+use Rattle.scan.specs.Steps.{Cuts, Cuts-mark}
+
+-- an answer cuts where its definition does
+pub cuts-by : {A : Type 0} (s : List ℕ) (r x : Result (A × ℕ) ParseErrorKind) → r ≡ x → Cuts s x → Cuts s r
+cuts-by s r x e c = subst (Cuts s) (sym e) c
+
+pub cuts-mark-by : (s : List ℕ) (r x : Result ℕ ParseErrorKind) → r ≡ x → Cuts-mark s x → Cuts-mark s r
+cuts-mark-by s r x e c = subst (Cuts-mark s) (sym e) c
+
+-- the exit of a `?`: what is returned is the kind that came
+pub exits : {A : Type 0} (r x : Result A ParseErrorKind) (y e : ParseErrorKind) → r ≡ Err y → y ≡ e → Err e ≡ x → r ≡ x
+exits r x y e p q h = p ∙ (ap Err q ∙ h)

@@ -1,0 +1,4 @@
+pub mod Kinds
+pub mod Steps
+pub mod Singles
+pub mod Numbers

@@ -1,0 +1,2 @@
+-- Digits.
+use Prim.Native.Nat.{ℕ}

@@ -1,0 +1,3 @@
+// Leaf scanners: what stands at the front of a text, its value, and how many bytes it takes.
+pub mod kind;
+pub mod single;
