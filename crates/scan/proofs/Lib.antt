@@ -1,2 +1,4 @@
+pub mod Digits
+pub mod Fractions
 pub mod Leaves
 pub mod Marks

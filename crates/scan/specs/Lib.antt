@@ -2,3 +2,4 @@ pub mod Kinds
 pub mod Steps
 pub mod Singles
 pub mod Numbers
+pub mod Precisions
