@@ -1,0 +1,2 @@
+// Offsets from UTC, as numbers and as the zone names of mail.
+pub mod separator;
