@@ -1,1 +1,3 @@
 pub mod Separators
+pub mod Offsets
+pub mod Signs

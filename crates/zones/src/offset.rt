@@ -1,0 +1,85 @@
+// Offsets from UTC as numbers: a sign, hours, and minutes and seconds behind a separator.
+ghost use Prim.Native.Nat.{ℕ, _+_, _*_, _<_, _≤_};
+ghost use mathlib.Core.List.{List};
+ghost use mathlib.Core.Bool.{true};
+ghost use mathlib.Core.Path.{_≡_};
+ghost use lib.ListN.{length, drop};
+ghost use Rattle.scan.specs.Steps.{Cuts};
+ghost use Rattle.std.specs.Results.{Cases};
+ghost use Rattle.std.specs.Vec.{made};
+ghost use Rattle.std.specs.declared.result.Result.the-variants.{Ok, Err};
+ghost use Rattle.zones.specs.Offsets.{sign-at, hours-at, minutes-at, separated-at, signed-hours-at, signed, zulu-at};
+ghost use Rattle.zones.specs.Signs.{sign-of};
+use super::separator::Separator;
+use scan::kind::ParseErrorKind;
+
+#[derive(Clone, Copy)]
+enum Sign {
+    Plus,
+    HyphenMinus,
+    MinusSign,
+}
+
+// The sign that a character is.
+fn sign_of(c: char) -> Option<Sign>
+    ensures { λ r. ⌜ r ≡ sign-of c ⌝ }
+{
+    match c {
+        '+' => Some(Sign::Plus),
+        '-' => Some(Sign::HyphenMinus),
+        '−' => Some(Sign::MinusSign),
+        _ => None,
+    }
+}
+
+// The sign in front: is it negative, and how many bytes has it?
+fn leading_sign(s: &[u8], allow_tz_minus_sign: bool) -> Result<(bool, usize), ParseErrorKind>
+    ensures value { λ r. ⌜ r ≡ sign-at «allow_tz_minus_sign» (now (s .entry)) ⌝ }
+    ensures within { λ r. ⌜ made r (λ p. p .1 ≤ length (now (s .entry))) ⌝ }
+{
+    if s.is_empty() {
+        return Err(ParseErrorKind::TooShort);
+    }
+    let Some(c) = text::first_char(s) else {
+        return Err(ParseErrorKind::Invalid);
+    };
+    let Some(sign) = sign_of(c) else {
+        return Err(ParseErrorKind::Invalid);
+    };
+    match sign {
+        Sign::Plus => Ok((false, c.len_utf8())),
+        Sign::HyphenMinus => Ok((true, c.len_utf8())),
+        Sign::MinusSign if allow_tz_minus_sign => Ok((true, c.len_utf8())),
+        Sign::MinusSign => Err(ParseErrorKind::Invalid),
+    }
+}
+
+// Two digits of hours, 00 to 99, and what follows them.
+fn hours(s: &[u8]) -> Result<(u32, &[u8]), ParseErrorKind>
+    ensures value { λ r. ⌜ Cases r (λ p. Ok (p .0) ≡ hours-at (now (s .entry))) (λ e. Err e ≡ hours-at (now (s .entry))) ⌝ }
+    ensures rest { λ r. ⌜ made r (λ p. (now (p .1) ≡ drop 2 (now (s .entry))) × (length (now (p .1)) + 2 ≡ length (now (s .entry))) × (p .0 < 100)) ⌝ }
+{
+    let [h1, h2, rest @ ..] = s else {
+        return Err(ParseErrorKind::TooShort);
+    };
+    match (*h1, *h2) {
+        (b'0'..=b'9', b'0'..=b'9') => Ok(((*h1 - b'0') as u32 * 10 + (*h2 - b'0') as u32, rest)),
+        _ => Err(ParseErrorKind::Invalid),
+    }
+}
+
+// Two digits of minutes or seconds, 00 to 59, and how many bytes they take: none where they may be missing and nothing is left.
+fn minutes(s: &[u8], allow_missing: bool) -> Result<(u32, usize), ParseErrorKind>
+    ensures value { λ r. ⌜ r ≡ minutes-at «allow_missing» (now (s .entry)) ⌝ }
+    ensures within { λ r. ⌜ made r (λ p. (p .0 < 60) × (p .1 ≤ length (now (s .entry)))) ⌝ }
+{
+    match s {
+        [] if allow_missing => Ok((0, 0)),
+        [] | [_] => Err(ParseErrorKind::TooShort),
+        [m1, m2, ..] => match (*m1, *m2) {
+            (b'0'..=b'5', b'0'..=b'9') => Ok(((*m1 - b'0') as u32 * 10 + (*m2 - b'0') as u32, 2)),
+            (b'6'..=b'9', b'0'..=b'9') => Err(ParseErrorKind::OutOfRange),
+            _ => Err(ParseErrorKind::Invalid),
+        },
+    }
+}
