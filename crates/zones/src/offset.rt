@@ -83,3 +83,31 @@ fn minutes(s: &[u8], allow_missing: bool) -> Result<(u32, usize), ParseErrorKind
         },
     }
 }
+
+// The separator, and then minutes or seconds.
+fn separated<S: Separator>(s: &[u8], sep: &mut S, allow_missing: bool) -> Result<(u32, usize), ParseErrorKind>
+    ensures value { λ r. ⌜ r ≡ separated-at (means (now (sep .entry))) «allow_missing» (now (s .entry)) ⌝ }
+    ensures within { λ r. ⌜ made r (λ p. (p .0 < 60) × (p .1 ≤ length (now (s .entry)))) ⌝ }
+    ensures same { λ _. ⌜ ((t : List ℕ) → means (now (sep .exit)) t ≡ means (now (sep .entry)) t) ⌝ }
+{
+    let k = sep.run(s)?;
+    let (value, n) = minutes(&s[k..], allow_missing)?;
+    Ok((value, k + n))
+}
+
+// The sign and the hours: is it negative, the hours, and how many bytes they take.
+fn signed_hours(s: &[u8], allow_tz_minus_sign: bool) -> Result<(bool, u32, usize), ParseErrorKind>
+    ensures value { λ r. ⌜ r ≡ signed-hours-at «allow_tz_minus_sign» (now (s .entry)) ⌝ }
+    ensures within { λ r. ⌜ made r (λ p. (p .1 < 100) × (p .2 ≤ length (now (s .entry)))) ⌝ }
+{
+    let (negative, n) = leading_sign(s, allow_tz_minus_sign)?;
+    let (hours, rest) = hours(&s[n..])?;
+    Ok((negative, hours, s.len() - rest.len()))
+}
+
+fn in_seconds(negative: bool, seconds: u32) -> i32
+    requires { ⌜ seconds < 1000000 ⌝ }
+    ensures { λ r. ⌜ r ≡ signed negative seconds ⌝ }
+{
+    if negative { -(seconds as i32) } else { seconds as i32 }
+}
