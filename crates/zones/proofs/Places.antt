@@ -75,7 +75,7 @@ told true false false true c e f g = let q = eqb-true c 0x2212 g in rw q refl
 told false false false true c e f g = let q = eqb-true c 0x2212 g in rw q refl
 told minus false false false c e f g = rw (e, f, g) refl
 
-sign-told : (minus : Bool) (c : ℕ) → by-sign minus (width c) (sign-of c) ≡ sign-by minus (Some c)
+pub sign-told : (minus : Bool) (c : ℕ) → by-sign minus (width c) (sign-of c) ≡ sign-by minus (Some c)
 sign-told minus c = told minus _ _ _ c refl refl refl
 
 -- a sign that was read

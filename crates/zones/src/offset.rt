@@ -1,14 +1,14 @@
 // Offsets from UTC as numbers: a sign, hours, and minutes and seconds behind a separator.
 ghost use Prim.Native.Nat.{ℕ, _+_, _*_, _<_, _≤_};
 ghost use mathlib.Core.List.{List};
-ghost use mathlib.Core.Bool.{true};
+ghost use mathlib.Core.Bool.{_&&_};
 ghost use mathlib.Core.Path.{_≡_};
 ghost use lib.ListN.{length, drop};
 ghost use Rattle.scan.specs.Steps.{Cuts};
 ghost use Rattle.std.specs.Results.{Cases};
 ghost use Rattle.std.specs.Vec.{made};
 ghost use Rattle.std.specs.declared.result.Result.the-variants.{Ok, Err};
-ghost use Rattle.zones.specs.Offsets.{sign-at, hours-at, minutes-at, separated-at, signed-hours-at, signed, zulu-at};
+ghost use Rattle.zones.specs.Offsets.{sign-at, hours-at, minutes-at, separated-at, signed-hours-at, signed, zulu-at, numeric-at, offset-at, double-colon-at, triple-colon-at};
 ghost use Rattle.zones.specs.Signs.{sign-of};
 use super::separator::Separator;
 use scan::kind::ParseErrorKind;
@@ -110,4 +110,57 @@ fn in_seconds(negative: bool, seconds: u32) -> i32
     ensures { λ r. ⌜ r ≡ signed negative seconds ⌝ }
 {
     if negative { -(seconds as i32) } else { seconds as i32 }
+}
+
+// Does Z stand in front, which is UTC, where it is allowed?
+fn is_zulu(s: &[u8], allow_zulu: bool) -> bool
+    ensures { λ r. ⌜ r ≡ («allow_zulu» && zulu-at (now (s .entry))) ⌝ }
+{
+    match s {
+        [b'Z' | b'z', ..] => allow_zulu,
+        _ => false,
+    }
+}
+
+// An offset of hours and minutes, in seconds.
+fn numeric_offset<S: Separator>(s: &[u8], sep: &mut S, allow_missing_minutes: bool, allow_tz_minus_sign: bool) -> Result<(i32, usize), ParseErrorKind>
+    ensures value { λ r. ⌜ r ≡ numeric-at (means (now (sep .entry))) «allow_missing_minutes» «allow_tz_minus_sign» (now (s .entry)) ⌝ }
+    ensures same { λ _. ⌜ ((t : List ℕ) → means (now (sep .exit)) t ≡ means (now (sep .entry)) t) ⌝ }
+{
+    let (negative, hours, n) = signed_hours(s, allow_tz_minus_sign)?;
+    let (minutes, m) = separated(&s[n..], sep, allow_missing_minutes)?;
+    Ok((in_seconds(negative, hours * 3600 + minutes * 60), n + m))
+}
+
+// An offset of hours and minutes, in seconds; Z, missing minutes and the sign U+2212 only where they are allowed.
+pub fn timezone_offset<S: Separator>(s: &[u8], sep: &mut S, allow_zulu: bool, allow_missing_minutes: bool, allow_tz_minus_sign: bool) -> Result<(i32, usize), ParseErrorKind>
+    ensures value { λ r. ⌜ r ≡ offset-at (means (now (sep .entry))) «allow_zulu» «allow_missing_minutes» «allow_tz_minus_sign» (now (s .entry)) ⌝ }
+    ensures cut { λ r. ⌜ Cuts (now (s .entry)) r ⌝ }
+    ensures same { λ _. ⌜ ((t : List ℕ) → means (now (sep .exit)) t ≡ means (now (sep .entry)) t) ⌝ }
+{
+    if is_zulu(s, allow_zulu) {
+        return Ok((0, 1));
+    }
+    numeric_offset(s, sep, allow_missing_minutes, allow_tz_minus_sign)
+}
+
+// An offset of hours, minutes and seconds, as `TimezoneOffsetDoubleColon` is documented: the separator runs twice.
+pub fn timezone_offset_double_colon<S: Separator>(s: &[u8], sep: &mut S, allow_tz_minus_sign: bool) -> Result<(i32, usize), ParseErrorKind>
+    ensures value { λ r. ⌜ r ≡ double-colon-at (means (now (sep .entry))) «allow_tz_minus_sign» (now (s .entry)) ⌝ }
+    ensures cut { λ r. ⌜ Cuts (now (s .entry)) r ⌝ }
+    ensures same { λ _. ⌜ ((t : List ℕ) → means (now (sep .exit)) t ≡ means (now (sep .entry)) t) ⌝ }
+{
+    let (negative, hours, n) = signed_hours(s, allow_tz_minus_sign)?;
+    let (minutes, m) = separated(&s[n..], sep, false)?;
+    let (seconds, k) = separated(&s[n + m..], sep, false)?;
+    Ok((in_seconds(negative, hours * 3600 + minutes * 60 + seconds), n + m + k))
+}
+
+// An offset of hours alone, as `TimezoneOffsetTripleColon` is documented.
+pub fn timezone_offset_triple_colon(s: &[u8], allow_tz_minus_sign: bool) -> Result<(i32, usize), ParseErrorKind>
+    ensures value { λ r. ⌜ r ≡ triple-colon-at «allow_tz_minus_sign» (now (s .entry)) ⌝ }
+    ensures cut { λ r. ⌜ Cuts (now (s .entry)) r ⌝ }
+{
+    let (negative, hours, n) = signed_hours(s, allow_tz_minus_sign)?;
+    Ok((in_seconds(negative, hours * 3600), n))
 }
