@@ -1,3 +1,4 @@
 pub mod Separators
 pub mod Offsets
 pub mod Signs
+pub mod Mail

@@ -105,7 +105,7 @@ fn signed_hours(s: &[u8], allow_tz_minus_sign: bool) -> Result<(bool, u32, usize
     Ok((negative, hours, s.len() - rest.len()))
 }
 
-fn in_seconds(negative: bool, seconds: u32) -> i32
+pub(super) fn in_seconds(negative: bool, seconds: u32) -> i32
     requires { ⌜ seconds < 1000000 ⌝ }
     ensures { λ r. ⌜ r ≡ signed negative seconds ⌝ }
 {
