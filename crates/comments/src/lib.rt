@@ -1,0 +1,32 @@
+// Comments as e-mail headers have them (RFC 2822, section 3.2.3).
+ghost use mathlib.Core.Path.{_≡_};
+ghost use Rattle.comments.specs.Comments.{closes-at};
+use scan::kind::ParseErrorKind;
+
+#[derive(Clone, Copy)]
+enum CommentState {
+    Start,
+    // how many comments are open
+    Next(usize),
+    // the same, behind a backslash
+    Escape(usize),
+}
+
+// The count of bytes that one comment takes, from its '(' to the ')' that closes it.
+fn closes(s: &[u8]) -> Result<usize, ParseErrorKind>
+    ensures value { λ r. ⌜ r ≡ closes-at (now (s .entry)) ⌝ }
+{
+    let mut state = CommentState::Start;
+    for (i, b) in s.iter().enumerate() {
+        state = match (state, *b) {
+            (CommentState::Start, b'(') => CommentState::Next(1),
+            (CommentState::Next(1), b')') => return Ok(i + 1),
+            (CommentState::Next(depth), b'\\') => CommentState::Escape(depth),
+            (CommentState::Next(depth), b'(') => CommentState::Next(depth + 1),
+            (CommentState::Next(depth), b')') => CommentState::Next(depth - 1),
+            (CommentState::Next(depth), _) | (CommentState::Escape(depth), _) => CommentState::Next(depth),
+            _ => return Err(ParseErrorKind::Invalid),
+        };
+    }
+    Err(ParseErrorKind::TooShort)
+}
