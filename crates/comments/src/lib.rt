@@ -1,6 +1,8 @@
 // Comments as e-mail headers have them (RFC 2822, section 3.2.3).
 ghost use mathlib.Core.Path.{_≡_};
-ghost use Rattle.comments.specs.Comments.{closes-at};
+ghost use Rattle.comments.specs.Comments.{closes-at, comment-at};
+ghost use Rattle.comments.specs.Grammar.{Exactly};
+ghost use Rattle.scan.specs.Steps.{Cuts-mark};
 use scan::kind::ParseErrorKind;
 
 #[derive(Clone, Copy)]
@@ -15,6 +17,7 @@ enum CommentState {
 // The count of bytes that one comment takes, from its '(' to the ')' that closes it.
 fn closes(s: &[u8]) -> Result<usize, ParseErrorKind>
     ensures value { λ r. ⌜ r ≡ closes-at (now (s .entry)) ⌝ }
+    ensures cut { λ r. ⌜ Cuts-mark (now (s .entry)) r ⌝ }
 {
     let mut state = CommentState::Start;
     for (i, b) in s.iter().enumerate() {
@@ -29,4 +32,14 @@ fn closes(s: &[u8]) -> Result<usize, ParseErrorKind>
         };
     }
     Err(ParseErrorKind::TooShort)
+}
+
+// Consumes blanks and one comment, and answers the count of their bytes. Comments nest, and a backslash exempts the byte behind it.
+pub fn comment_2822(s: &[u8]) -> Result<usize, ParseErrorKind>
+    ensures value { λ r. ⌜ r ≡ comment-at (now (s .entry)) ⌝ }
+    ensures cut { λ r. ⌜ Cuts-mark (now (s .entry)) r ⌝ }
+    ensures grammar { λ r. ⌜ Exactly (now (s .entry)) r ⌝ }
+{
+    let n = text::blanks(s);
+    Ok(n + closes(&s[n..])?)
 }

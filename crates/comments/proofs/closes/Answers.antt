@@ -7,7 +7,9 @@ use lib.ListN.{length, drop, getD}
 use Rattle.std.proofs.shelf.Lists.{at-drop-more, at-drop-all}
 use Rattle.std.proofs.shelf.Ways.{tells}
 use Rattle.std.specs.declared.result.Result.the-variants.{Ok, Err}
+use Rattle.scan.proofs.Leaves.{cuts-mark-by}
 use Rattle.comments.specs.Comments.{inside, closes-at}
+use Rattle.comments.proofs.Cuts.{closes-cut}
 use Rattle.comments.proofs.Machine.{from, Sound, ended}
 use Rattle.comments.proofs.closes.Needs as need
 use Rattle.comments.proofs.closes.Needs.{in-Start-eq40, in-Next-eq41, in-Next··in-Next-eq92, in-Next··in-Next-eq40, in-Next··in-Next-rest, in-1··in-rest·, in-rest··in-rest·-this-3, in-Next-rest}
@@ -16,7 +18,8 @@ pub returns-in-Next-eq1-eq41 : need.returns-in-Next-eq1-eq41
 unfolding closes-at
 returns-in-Next-eq1-eq41 c =
     let h = at-drop-more (from (c .loop-i .i) (c .loop-i .state)) (c .args .s .now) (c .loop-i .i) 0 (c .loop-i-test .taken) in
-    record { value = grind (arith, tells) }
+    let v : Ok (c .loop-i .i + 1) ≡ closes-at (c .args .s .now) = grind (arith, tells) in
+    record { value = v; cut = cuts-mark-by _ _ _ v (closes-cut (c .args .s .now)) }
 
 pub loop-i-again : need.loop-i-again
 unfolding closes-at
@@ -30,14 +33,14 @@ loop-i-again c =
         | in-Next··in-Next-rest w ↦ elim (w .in-Next-rest· .came) [ in-1··in-rest· v ↦ grind (arith, tells) | in-rest··in-rest·-this-3 v ↦ grind (arith, tells) ]
         | in-Next-rest w ↦ grind (arith, tells) ]
 
-pub returns : need.returns
-returns c =
-    let h = at-drop-all (from (c .loop-i .i) (c .loop-i .state)) (c .args .s .now) (c .loop-i .i) (c .loop-i-test .left) in
-    let e = ended (c .loop-i .i) (c .loop-i .state) in
-    record { value = cc }
-
 pub returns-in-rest : need.returns-in-rest
 unfolding closes-at
 returns-in-rest c =
     let h = at-drop-more (from (c .loop-i .i) (c .loop-i .state)) (c .args .s .now) (c .loop-i .i) 0 (c .loop-i-test .taken) in
-    record { value = grind (arith, tells) }
+    record { value = grind (arith, tells); cut = tt }
+
+pub returns : need.returns
+returns c =
+    let h = at-drop-all (from (c .loop-i .i) (c .loop-i .state)) (c .args .s .now) (c .loop-i .i) (c .loop-i-test .left) in
+    let e = ended (c .loop-i .i) (c .loop-i .state) in
+    record { value = cc; cut = tt }
