@@ -12,7 +12,7 @@ use Rattle.comments.specs.Comments.{inside, closes-at}
 use Rattle.comments.proofs.Cuts.{closes-cut}
 use Rattle.comments.proofs.Machine.{from, Sound, ended}
 use Rattle.comments.proofs.closes.Needs as need
-use Rattle.comments.proofs.closes.Needs.{in-Start-eq40, in-Next-eq41, in-Next··in-Next-eq92, in-Next··in-Next-eq40, in-Next··in-Next-rest, in-1··in-rest·, in-rest··in-rest·-this-3, in-Next-rest}
+use Rattle.comments.proofs.closes.Needs.{in-Start-eq40, in-Next-eq41, in-Next··in-Next-eq92, in-Next··in-Next-eq40, in-Next··in-Next-rest, in-Next-rest}
 
 pub returns-in-Next-eq1-eq41 : need.returns-in-Next-eq1-eq41
 unfolding closes-at
@@ -30,7 +30,7 @@ loop-i-again c =
         | in-Next-eq41 w ↦ grind (arith, tells)
         | in-Next··in-Next-eq92 w ↦ grind (arith, tells)
         | in-Next··in-Next-eq40 w ↦ grind (arith, tells)
-        | in-Next··in-Next-rest w ↦ elim (w .in-Next-rest· .came) [ in-1··in-rest· v ↦ grind (arith, tells) | in-rest··in-rest·-this-3 v ↦ grind (arith, tells) ]
+        | in-Next··in-Next-rest w ↦ grind (arith, tells)
         | in-Next-rest w ↦ grind (arith, tells) ]
 
 pub returns-in-rest : need.returns-in-rest
