@@ -1,7 +1,7 @@
 -- A comment ends behind its ')', so it takes whole characters.
-use Prim.Native.Nat.{ℕ, suc, _+_, _<_}
+use Prim.Native.Nat.{ℕ, suc, _+_}
 use mathlib.Core.List.{List, [], _∷_, _++_}
-use mathlib.Core.Path.{_≡_, refl, sym, ap, _∙_, subst}
+use mathlib.Core.Path.{_≡_, refl, ap, _∙_, subst}
 use native.Mathlib.Omega.{arith}
 use lib.ListN.{length, drop, getD, length-append}
 use Rattle.std.proofs.shelf.Lists.{append-assoc, getD-at}
@@ -21,7 +21,7 @@ stands-cut s m t =
     let a = t .comment .inner in
     let i = suc (length a) in
     let q : s ≡ (40 ∷ a) ++ 41 ∷ t .rest
-        = t .bytes ∙ (ap (λ x. x ++ t .rest) (t .comment .bytes) ∙ ap (λ x. 40 ∷ x) (append-assoc a (41 ∷ []) (t .rest))) in
+    = t .bytes ∙ (ap (λ x. x ++ t .rest) (t .comment .bytes) ∙ ap (λ x. 40 ∷ x) (append-assoc a (41 ∷ []) (t .rest))) in
     let g : getD s i 0 ≡ 41 = ap (λ x. getD x i 0) q ∙ getD-at (40 ∷ a) 41 (t .rest) 0 i refl in
     let l : length s ≡ suc (length (a ++ 41 ∷ t .rest)) = ap length q in
     let k = length-append a (41 ∷ t .rest) in

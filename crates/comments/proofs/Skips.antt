@@ -1,12 +1,12 @@
 -- Blanks in front are what the grammar calls so.
-use Prim.Native.Nat.{ℕ, zero, suc, _+_, _-_, _≤_, _<_}
-use mathlib.Core.Bool.{Bool, true, false, _&&_}
+use Prim.Native.Nat.{ℕ, zero, suc, _+_, _≤_}
+use mathlib.Core.Bool.{true, false}
 use mathlib.Core.List.{List, [], _∷_, _++_}
 use mathlib.Core.Logic.{⊎-elim}
 use mathlib.Core.Path.{_≡_, refl, sym, ap, _∙_, subst}
 use native.Mathlib.Omega.{arith}
-use lib.ListN.{length, take, drop, length-append, length-drop}
-use lib.Utf8.{encode, encodes, scalar, scalars, low-scalar}
+use lib.ListN.{length, drop, length-append}
+use lib.Utf8.{encode, encodes, scalar, scalars}
 use Rattle.std.proofs.shelf.Lists.{append-assoc}
 use Rattle.std.proofs.shelf.Tests.{and-parts, and-from, cases-bool}
 use Rattle.std.proofs.shelf.Text.{encode-ascii, length-encode, width-bounds}
@@ -62,12 +62,16 @@ one-more s c n h b e t =
     let k = t .count in
     let g = t .blanks in
     record {
-        ws = encode c ++ t .ws; rest = t .rest;
-        blanks = record {
-            chars = c ∷ g .chars; scalar = and-from (scalar c) (scalars (g .chars)) h (g .scalar);
-            blank = and-from (blank c) (all-blank (g .chars)) b (g .blank); bytes = ap (λ x. encode c ++ x) (g .bytes)
-        };
-        bytes = e ∙ (ap (λ x. encode c ++ x) (t .bytes) ∙ sym (append-assoc (encode c) (t .ws) (t .rest))); count = omega arith
+      ws = encode c ++ t .ws;
+      rest = t .rest;
+      blanks = record {
+        chars = c ∷ g .chars;
+        scalar = and-from (scalar c) (scalars (g .chars)) h (g .scalar);
+        blank = and-from (blank c) (all-blank (g .chars)) b (g .blank);
+        bytes = ap (λ x. encode c ++ x) (g .bytes);
+      };
+      bytes = e ∙ (ap (λ x. encode c ++ x) (t .bytes) ∙ sym (append-assoc (encode c) (t .ws) (t .rest)));
+      count = omega arith;
     }
 
 no-more : (s : List ℕ) (n : ℕ) → n ≡ 0 → Skipped s n

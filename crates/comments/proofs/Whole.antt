@@ -31,8 +31,13 @@ granted s n e =
     let b = t .count in
     let c = u .count in
     record {
-        ws = t .ws; cs = u .cs; rest = u .rest; blanks = t .blanks; comment = u .comment; bytes = t .bytes ∙ ap (λ x. t .ws ++ x) (d ∙ u .bytes);
-        count = omega arith
+      ws = t .ws;
+      cs = u .cs;
+      rest = u .rest;
+      blanks = t .blanks;
+      comment = u .comment;
+      bytes = t .bytes ∙ ap (λ x. t .ws ++ x) (d ∙ u .bytes);
+      count = omega arith;
     }
 
 begins : (ws cs rest : List ℕ) → Comment cs → (more : List ℕ) × (ws ++ (cs ++ rest) ≡ ws ++ 40 ∷ more)
@@ -45,7 +50,7 @@ grants s n c =
     let o = begins ws (c .cs) (c .rest) (c .comment) in
     let k : blanks-at s ≡ length ws = ap blanks-at (c .bytes ∙ o .1) ∙ skipped ws (o .0) (c .blanks) in
     let d : drop (blanks-at s) s ≡ c .cs ++ c .rest
-        = ap (drop (blanks-at s)) (c .bytes) ∙ drop-at ws (c .cs ++ c .rest) (blanks-at s) (sym k) in
+    = ap (drop (blanks-at s)) (c .bytes) ∙ drop-at ws (c .cs ++ c .rest) (blanks-at s) (sym k) in
     let z : closes-at (drop (blanks-at s) s) ≡ Ok (length (c .cs)) = ap closes-at d ∙ complete (c .cs) (c .rest) (c .comment) in
     let m = c .count in
     ap (λ r. bind r (λ m. Ok (blanks-at s + m))) z ∙ ap Ok (omega arith)

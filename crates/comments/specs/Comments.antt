@@ -18,7 +18,7 @@ inside n d true (b ∷ bs) = inside (n + 1) d false bs
 inside n d false (b ∷ bs) =
     cond (eqb b 92) (inside (n + 1) d true bs)
     (cond (eqb b 40) (inside (n + 1) (d + 1) false bs)
-     (cond (eqb b 41) (cond (eqb d 0) (Ok (n + 1)) (inside (n + 1) (d - 1) false bs)) (inside (n + 1) d false bs)))
+    (cond (eqb b 41) (cond (eqb d 0) (Ok (n + 1)) (inside (n + 1) (d - 1) false bs)) (inside (n + 1) d false bs)))
 
 -- one comment in front: the count of its bytes
 unfoldable pub closes-at : List ℕ → Result ℕ ParseErrorKind

@@ -19,15 +19,17 @@ fn closes(s: &[u8]) -> Result<usize, ParseErrorKind>
     ensures value { λ r. ⌜ r ≡ closes-at (now (s .entry)) ⌝ }
     ensures cut { λ r. ⌜ Cuts-mark (now (s .entry)) r ⌝ }
 {
-    let mut state = CommentState::Start;
+    use CommentState::*;
+
+    let mut state = Start;
     for (i, b) in s.iter().enumerate() {
         state = match (state, *b) {
-            (CommentState::Start, b'(') => CommentState::Next(1),
-            (CommentState::Next(1), b')') => return Ok(i + 1),
-            (CommentState::Next(depth), b'\\') => CommentState::Escape(depth),
-            (CommentState::Next(depth), b'(') => CommentState::Next(depth + 1),
-            (CommentState::Next(depth), b')') => CommentState::Next(depth - 1),
-            (CommentState::Next(depth), _) | (CommentState::Escape(depth), _) => CommentState::Next(depth),
+            (Start, b'(') => Next(1),
+            (Next(1), b')') => return Ok(i + 1),
+            (Next(depth), b'\\') => Escape(depth),
+            (Next(depth), b'(') => Next(depth + 1),
+            (Next(depth), b')') => Next(depth - 1),
+            (Next(depth), _) | (Escape(depth), _) => Next(depth),
             _ => return Err(ParseErrorKind::Invalid),
         };
     }

@@ -1,16 +1,13 @@
-use Prim.Native.Nat.{ℕ, _+_, _<_, _≤_}
-use mathlib.Core.List.{List, [], _∷_}
-use mathlib.Core.Path.{_≡_, refl, sym, _∙_}
+use Prim.Native.Nat.{_+_}
+use mathlib.Core.Path.{_≡_, sym, _∙_}
 use native.Mathlib.Omega.{arith}
-use borrow.Author.Needs.{needs}
-use lib.ListN.{length, drop, getD}
 use Rattle.std.proofs.shelf.Lists.{at-drop-more, at-drop-all}
 use Rattle.std.proofs.shelf.Ways.{tells}
-use Rattle.std.specs.declared.result.Result.the-variants.{Ok, Err}
+use Rattle.std.specs.declared.result.Result.the-variants.{Ok}
 use Rattle.scan.proofs.Leaves.{cuts-mark-by}
-use Rattle.comments.specs.Comments.{inside, closes-at}
+use Rattle.comments.specs.Comments.{closes-at}
 use Rattle.comments.proofs.Cuts.{closes-cut}
-use Rattle.comments.proofs.Machine.{from, Sound, ended}
+use Rattle.comments.proofs.Machine.{from, ended}
 use Rattle.comments.proofs.closes.Needs as need
 use Rattle.comments.proofs.closes.Needs.{in-Start-eq40, in-Next-eq41, in-Next··in-Next-eq92, in-Next··in-Next-eq40, in-Next··in-Next-rest, in-Next-rest}
 
@@ -26,12 +23,13 @@ unfolding closes-at
 loop-i-again c =
     let h = at-drop-more (from (c .loop-i .i) (c .loop-i .state)) (c .args .s .now) (c .loop-i .i) 0 (c .loop-i-test .taken) in
     elim (c .match-state .came) [
-        in-Start-eq40 w ↦ grind (arith, tells)
-        | in-Next-eq41 w ↦ grind (arith, tells)
-        | in-Next··in-Next-eq92 w ↦ grind (arith, tells)
-        | in-Next··in-Next-eq40 w ↦ grind (arith, tells)
-        | in-Next··in-Next-rest w ↦ grind (arith, tells)
-        | in-Next-rest w ↦ grind (arith, tells) ]
+      | in-Start-eq40 w ↦ grind (arith, tells)
+      | in-Next-eq41 w ↦ grind (arith, tells)
+      | in-Next··in-Next-eq92 w ↦ grind (arith, tells)
+      | in-Next··in-Next-eq40 w ↦ grind (arith, tells)
+      | in-Next··in-Next-rest w ↦ grind (arith, tells)
+      | in-Next-rest w ↦ grind (arith, tells)
+    ]
 
 pub returns-in-rest : need.returns-in-rest
 unfolding closes-at
@@ -43,4 +41,4 @@ pub returns : need.returns
 returns c =
     let h = at-drop-all (from (c .loop-i .i) (c .loop-i .state)) (c .args .s .now) (c .loop-i .i) (c .loop-i-test .left) in
     let e = ended (c .loop-i .i) (c .loop-i .state) in
-    record { value = cc; cut = tt }
+    record { value = sym e ∙ (sym h ∙ c .loop-i .inv .0); cut = tt }

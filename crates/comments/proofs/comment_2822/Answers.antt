@@ -35,5 +35,5 @@ pub returns : need.returns
 returns c =
     let s = c .args .s .now in
     let v : Ok (c .blanks-n .result + c .in-Continue-closes .field-0) ≡ comment-at s
-        = step s (c .blanks-n .result) (Ok _) (c .blanks-n .ensures .value) (c .in-Continue-closes .ensures tt .value) in
+    = step s (c .blanks-n .result) (Ok _) (c .blanks-n .ensures .value) (c .in-Continue-closes .ensures tt .value) in
     record { value = v; cut = cuts-mark-by s _ (comment-at s) v (comment-cut s); grammar = exactly-by s _ v }
