@@ -55,7 +55,8 @@ pub record Skipped (s : List ℕ) (n : ℕ) : Type 0 where
   pub bytes : s ≡ ws ++ rest
   pub count : length ws ≡ n
 
-one-more : (s : List ℕ) (c n : ℕ) → scalar c ≡ true → blank c ≡ true → s ≡ encode c ++ drop (width c) s → Skipped (drop (width c) s) n → Skipped s (width c + n)
+one-more : (s : List ℕ) (c n : ℕ) → scalar c ≡ true → blank c ≡ true → s ≡ encode c ++ drop (width c) s
+    → Skipped (drop (width c) s) n → Skipped s (width c + n)
 one-more s c n h b e t =
     let w = length-encode c in
     let l = length-append (encode c) (t .ws) in

@@ -28,7 +28,8 @@ returns-in-Break-closes c =
     let s = c .args .s .now in
     let r = c .from-residual .result in
     let p = err-from-errBy r (c .from-residual .ensures .1) in
-    let v : r ≡ comment-at s = exits r (comment-at s) _ _ (p .1) (p .2) (step s (c .blanks-n .result) (Err _) (c .blanks-n .ensures .value) (c .in-Break-closes .ensures tt .value)) in
+    let h = step s (c .blanks-n .result) (Err _) (c .blanks-n .ensures .value) (c .in-Break-closes .ensures tt .value) in
+    let v : r ≡ comment-at s = exits r (comment-at s) _ _ (p .1) (p .2) h in
     record { value = v; cut = cuts-mark-by s r (comment-at s) v (comment-cut s); grammar = exactly-by s r v }
 
 pub returns : need.returns
