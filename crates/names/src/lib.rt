@@ -1,0 +1,2 @@
+// The English names of months and of days of the week.
+pub mod weekday;
