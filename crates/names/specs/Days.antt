@@ -1,8 +1,9 @@
 -- The days of the week, by number and as text.
 use Prim.Native.Nat.{ℕ, _≤_}
-use mathlib.Core.List.{List}
+use mathlib.Core.List.{List, [], _∷_}
 use mathlib.Core.Path.{_≡_}
 use lib.Chars.{codes}
+use lib.ListN.{getD}
 use Rattle.std.specs.declared.result.Result.{Result}
 use Rattle.std.specs.declared.result.Result.the-variants.{Ok, Err}
 use Rattle.scan.specs.declared.kind.ParseErrorKind.{ParseErrorKind}
@@ -19,6 +20,10 @@ day-number Thu = 3
 day-number Fri = 4
 day-number Sat = 5
 day-number Sun = 6
+
+-- the day of a number below 7
+abbrev pub weekday-of : ℕ → Weekday
+weekday-of n = getD (Mon ∷ Tue ∷ Wed ∷ Thu ∷ Fri ∷ Sat ∷ Sun ∷ []) n Sun
 
 -- a number is read as the day of that number, and from 7 on it is out of range
 abbrev pub Day-read : ℕ → Result Weekday ParseErrorKind → Type 0
