@@ -1,6 +1,7 @@
 // English names in front of a text, short or long, ASCII case ignored.
 ghost use mathlib.Core.Path.{_≡_};
-ghost use lib.ListN.{length, take};
+ghost use mathlib.Core.List.{[]};
+ghost use lib.ListN.{length, take, getD};
 ghost use Prim.Native.Nat.{_<_};
 ghost use Rattle.scan.specs.Steps.{Cuts};
 ghost use Rattle.std.specs.Vec.{made};
@@ -49,10 +50,12 @@ fn short_name(names: &[&[u8]], s: &[u8]) -> Result<usize, ParseErrorKind>
     Err(ParseErrorKind::Invalid)
 }
 
-// How many bytes a name takes whose first three letters stand in front: all of it, if all of it does.
-fn name_len(name: &[u8], s: &[u8]) -> usize
-    ensures { λ r. ⌜ r ≡ taken (now (name .entry)) (now (s .entry)) ⌝ }
+// How many bytes the name at a place takes whose first three letters stand in front: all of it, if all of it does.
+fn name_len(names: &[&[u8]], i: usize, s: &[u8]) -> usize
+    requires { ⌜ i < length (now names) ⌝ }
+    ensures { λ r. ⌜ r ≡ taken (getD (texts (now (names .entry))) i []) (now (s .entry)) ⌝ }
 {
+    let name = names[i];
     if begins(s, name) { name.len() } else { 3 }
 }
 
@@ -83,7 +86,7 @@ pub fn short_or_long_month0(s: &[u8]) -> Result<(u8, usize), ParseErrorKind>
     ensures below { λ r. ⌜ made r (λ p. p .0 < 12) ⌝ }
 {
     let (month0, _) = short_month0(s)?;
-    let n = name_len(MONTHS[month0 as usize], s);
+    let n = name_len(&MONTHS, month0 as usize, s);
     Ok((month0, n))
 }
 
@@ -93,6 +96,6 @@ pub fn short_or_long_weekday(s: &[u8]) -> Result<(Weekday, usize), ParseErrorKin
     ensures cut { λ r. ⌜ Cuts (now (s .entry)) r ⌝ }
 {
     let (day, _) = short_weekday(s)?;
-    let n = name_len(WEEKDAYS[day.num_days_from_monday() as usize], s);
+    let n = name_len(&WEEKDAYS, day.num_days_from_monday() as usize, s);
     Ok((day, n))
 }
