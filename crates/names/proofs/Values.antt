@@ -30,6 +30,10 @@ day-again Sun = refl
 pub day-by : (d : Weekday) (i : ℕ) → day-number d ≡ i → d ≡ weekday-of i
 day-by d i e = day-again d ∙ ap weekday-of e
 
+-- the same bytes at the day's own number
+pub taken-at : (i k n : ℕ) (s : List ℕ) → n ≡ taken (getD day-names i []) s → i ≡ k → n ≡ taken (getD day-names k []) s
+taken-at i k n s e p = e ∙ ap (λ j. taken (getD day-names j []) s) p
+
 -- the bytes that an entry of a table of references takes
 module _ (ts : List (RefT (List ℕ))) (i : ℕ) (d : RefT (List ℕ)) (s : List ℕ) (l : i < length ts) where
   same : getD ts i d .now ≡ getD (texts ts) i []

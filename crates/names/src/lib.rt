@@ -1,3 +1,6 @@
 // The English names of months and of days of the week.
 pub mod names;
 pub mod weekday;
+
+#[cfg(test)]
+mod tests;

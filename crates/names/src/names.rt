@@ -12,7 +12,9 @@ use super::weekday::WeekdayTryFrom;
 use scan::kind::ParseErrorKind;
 use std::convert::TryFrom;
 
-// The first three letters of a name are the short name.
+// How many letters a short name has: the first ones of the name.
+const SHORT: usize = 3;
+
 const MONTHS: [&[u8]; 12] = [
     b"january", b"february", b"march", b"april", b"may", b"june", b"july", b"august", b"september", b"october", b"november",
     b"december",
@@ -31,7 +33,7 @@ fn begins(s: &[u8], word: &[u8]) -> bool
 fn short(name: &[u8]) -> &[u8]
     ensures { λ r. ⌜ now r ≡ take 3 (now (name .entry)) ⌝ }
 {
-    if name.len() < 3 { name } else { &name[0..3] }
+    if name.len() < SHORT { name } else { &name[0..SHORT] }
 }
 
 // The place of the name whose first three letters stand in front.
@@ -39,7 +41,7 @@ fn short_name(names: &[&[u8]], s: &[u8]) -> Result<usize, ParseErrorKind>
     ensures value { λ r. ⌜ r ≡ short-at (texts (now (names .entry))) (now (s .entry)) ⌝ }
     ensures within { λ r. ⌜ made r (λ i. i < length (now (names .entry))) ⌝ }
 {
-    if s.len() < 3 {
+    if s.len() < SHORT {
         return Err(ParseErrorKind::TooShort);
     }
     for (i, name) in names.iter().enumerate() {
@@ -56,7 +58,7 @@ fn name_len(names: &[&[u8]], i: usize, s: &[u8]) -> usize
     ensures { λ r. ⌜ r ≡ taken (getD (texts (now (names .entry))) i []) (now (s .entry)) ⌝ }
 {
     let name = names[i];
-    if begins(s, name) { name.len() } else { 3 }
+    if begins(s, name) { name.len() } else { SHORT }
 }
 
 // A month by its first three letters, January 0.
@@ -66,7 +68,7 @@ pub fn short_month0(s: &[u8]) -> Result<(u8, usize), ParseErrorKind>
     ensures below { λ r. ⌜ made r (λ p. p .0 < 12) ⌝ }
 {
     let i = short_name(&MONTHS, s)?;
-    Ok((i as u8, 3))
+    Ok((i as u8, SHORT))
 }
 
 // A day of the week by its first three letters.
@@ -76,7 +78,7 @@ pub fn short_weekday(s: &[u8]) -> Result<(Weekday, usize), ParseErrorKind>
 {
     let i = short_name(&WEEKDAYS, s)?;
     let day = Weekday::try_from(i as u8)?;
-    Ok((day, 3))
+    Ok((day, SHORT))
 }
 
 // A month by its name, all of it or the first three letters, January 0.

@@ -54,14 +54,14 @@ impl Weekday {
     pub fn number_from_monday(&self) -> u32
         ensures { λ r. ⌜ r ≡ day-number (now (self .entry)) + 1 ⌝ }
     {
-        self.days_since(Weekday::Mon) + 1
+        self.num_days_from_monday() + 1
     }
 
     // Sunday is 1.
     pub fn number_from_sunday(&self) -> u32
         ensures { λ r. ⌜ r ≡ (day-number (now (self .entry)) + 1) % 7 + 1 ⌝ }
     {
-        self.days_since(Weekday::Sun) + 1
+        self.num_days_from_sunday() + 1
     }
 
     // Monday is 0.

@@ -1,13 +1,11 @@
-use mathlib.Core.List.{[]}
 use mathlib.Core.Path.{_≡_, ap, _∙_}
-use lib.ListN.{getD}
-use Rattle.names.specs.Names.{day-names, taken}
+use Rattle.names.specs.Days.{day-number}
 use Rattle.std.proofs.shelf.Results.{err-from-errBy}
 use Rattle.std.specs.declared.result.Result.the-variants.{Ok, Err}
 use Rattle.scan.proofs.Leaves.{cuts-by, exits}
 use Rattle.names.specs.Names.{short-or-long-weekday-at}
 use Rattle.names.proofs.Taken.{short-or-long-weekday-cut}
-use Rattle.names.proofs.Values.{short-or-long-weekday-by}
+use Rattle.names.proofs.Values.{short-or-long-weekday-by, taken-at}
 use Rattle.names.proofs.names.short_or_long_weekday.Needs as need
 
 pub returns-in-Break-day : need.returns-in-Break-day
@@ -20,7 +18,7 @@ returns-in-Break-day c =
 pub returns : need.returns
 returns c =
     let d = c .in-Continue-day .day in
-    let n = c .name-len-n .ensures ∙ ap (λ i. taken (getD day-names i []) (c .args .s .now)) (c .num-days-from-monday .ensures) in
+    let n = taken-at _ (day-number d) (c .name-len-n .result) (c .args .s .now) (c .name-len-n .ensures) (c .num-days-from-monday .ensures) in
     let v : Ok (d, c .name-len-n .result) ≡ short-or-long-weekday-at (c .args .s .now)
         = ap (λ k. Ok (d, k)) n ∙ short-or-long-weekday-by (c .args .s .now) (Ok (d, c .in-Continue-day .field-0-1)) (c .in-Continue-day .ensures tt .value) in
     record { value = v; cut = cuts-by _ _ _ v (short-or-long-weekday-cut (c .args .s .now)) }
