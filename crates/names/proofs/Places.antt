@@ -13,7 +13,6 @@ use Rattle.scan.specs.declared.kind.ParseErrorKind.the-variants.{Invalid, TooSh
 use Rattle.names.specs.Names.{begins-alike, place-from, short-at, texts}
 
 module _ (ts : List (RefT (List ℕ))) (s : List ℕ) (i : ℕ) where
-
   here : (d : RefT (List ℕ)) → i < length ts → place-from i (texts (drop i ts)) s
       ≡ cond (begins-alike (take 3 (getD ts i d .now)) s) (Ok i) (place-from (i + 1) (texts (drop (i + 1) ts)) s)
   unfolding place-from

@@ -16,11 +16,29 @@ use std::convert::TryFrom;
 const SHORT: usize = 3;
 
 const MONTHS: [&[u8]; 12] = [
-    b"january", b"february", b"march", b"april", b"may", b"june", b"july", b"august", b"september", b"october", b"november",
+    b"january",
+    b"february",
+    b"march",
+    b"april",
+    b"may",
+    b"june",
+    b"july",
+    b"august",
+    b"september",
+    b"october",
+    b"november",
     b"december",
 ];
 
-const WEEKDAYS: [&[u8]; 7] = [b"monday", b"tuesday", b"wednesday", b"thursday", b"friday", b"saturday", b"sunday"];
+const WEEKDAYS: [&[u8]; 7] = [
+    b"monday",
+    b"tuesday",
+    b"wednesday",
+    b"thursday",
+    b"friday",
+    b"saturday",
+    b"sunday",
+];
 
 // Does the text begin with the word?
 fn begins(s: &[u8], word: &[u8]) -> bool
@@ -33,7 +51,11 @@ fn begins(s: &[u8], word: &[u8]) -> bool
 fn short(name: &[u8]) -> &[u8]
     ensures { λ r. ⌜ now r ≡ take 3 (now (name .entry)) ⌝ }
 {
-    if name.len() < SHORT { name } else { &name[0..SHORT] }
+    if name.len() < SHORT {
+        name
+    } else {
+        &name[0..SHORT]
+    }
 }
 
 // The place of the name whose first three letters stand in front.

@@ -84,7 +84,11 @@ impl Weekday {
     {
         let this = *self as u32;
         let that = other as u32;
-        if this < that { 7 + this - that } else { this - that }
+        if this < that {
+            7 + this - that
+        } else {
+            this - that
+        }
     }
 }
 
@@ -112,14 +116,16 @@ pub impl fmt::Display for Weekday as WeekdayDisplay {
     ghost shown = { λ d. Some (day-text d) };
 
     fn fmt<W: fmt::Write>(&self, f: &mut fmt::Formatter<W>) -> fmt::Result {
-        f.pad(match *self {
-            Weekday::Mon => "Mon",
-            Weekday::Tue => "Tue",
-            Weekday::Wed => "Wed",
-            Weekday::Thu => "Thu",
-            Weekday::Fri => "Fri",
-            Weekday::Sat => "Sat",
-            Weekday::Sun => "Sun",
-        })
+        f.pad(
+            match *self {
+                Weekday::Mon => "Mon",
+                Weekday::Tue => "Tue",
+                Weekday::Wed => "Wed",
+                Weekday::Thu => "Thu",
+                Weekday::Fri => "Fri",
+                Weekday::Sat => "Sat",
+                Weekday::Sun => "Sun",
+            },
+        )
     }
 }

@@ -11,7 +11,7 @@ pub returns-in-Break-i : need.returns-in-Break-i
 returns-in-Break-i c =
     let p = err-from-errBy (c .from-residual .result) (c .from-residual .ensures .1) in
     let v : c .from-residual .result ≡ short-month0-at (c .args .s .now)
-        = exits _ _ _ _ (p .1) (p .2) (short-month0-by (c .args .s .now) (Err (c .in-Break-i .field-0 .0)) (c .in-Break-i .ensures tt .value)) in
+    = exits _ _ _ _ (p .1) (p .2) (short-month0-by (c .args .s .now) (Err (c .in-Break-i .field-0 .0)) (c .in-Break-i .ensures tt .value)) in
     record { value = v; cut = cuts-by _ _ _ v (short-month0-cut (c .args .s .now)); below = made-from-err _ _ (c .from-residual .ensures .0) }
 
 pub returns : need.returns

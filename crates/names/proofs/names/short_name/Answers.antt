@@ -18,5 +18,6 @@ loop-i-again c =
 pub returns : need.returns
 returns c =
     record {
-        value = sym (long-enough (texts (c .args .names .now)) (c .args .s .now) (c .if-s-lt-SHORT .left) ∙ (sym (c .loop-i .inv) ∙ missed (c .args .names .now) (c .args .s .now) (c .loop-i .i) (c .loop-i-test .left)));
-        within = tt }
+      value = sym (long-enough (texts (c .args .names .now)) (c .args .s .now) (c .if-s-lt-SHORT .left) ∙ (sym (c .loop-i .inv) ∙ missed (c .args .names .now) (c .args .s .now) (c .loop-i .i) (c .loop-i-test .left)));
+      within = tt;
+    }
