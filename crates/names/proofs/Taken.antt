@@ -1,8 +1,8 @@
 -- Names take whole characters, since their letters are ASCII.
-use Prim.Native.Nat.{ℕ, zero, suc, _+_, _≤_, _<_}
-use mathlib.Core.Bool.{Bool, true, false, cond, _&&_}
+use Prim.Native.Nat.{ℕ, zero, suc, _+_, _<_}
+use mathlib.Core.Bool.{Bool, true, _&&_}
 use mathlib.Core.List.{List, [], _∷_}
-use mathlib.Core.Path.{_≡_, refl, sym, subst}
+use mathlib.Core.Path.{_≡_, refl, subst}
 use native.Mathlib.Omega.{arith}
 use lib.Dec.{eqb, ltb}
 use lib.ListN.{length, take, getD}
@@ -14,7 +14,7 @@ use Rattle.std.specs.declared.result.Result.{Result}
 use Rattle.std.specs.declared.result.Result.the-variants.{Ok, Err}
 use Rattle.scan.specs.Steps.{Cuts, bind}
 use Rattle.scan.specs.declared.kind.ParseErrorKind.{ParseErrorKind}
-use Rattle.scan.specs.declared.kind.ParseErrorKind.the-variants.{Invalid, TooShort}
+use Rattle.scan.specs.declared.kind.ParseErrorKind.the-variants.{TooShort}
 use Rattle.text.proofs.Cutting.{cut-none, cut-cons}
 use Rattle.text.specs.Cuts.{Cut}
 use Rattle.names.specs.Days.{day-number}

@@ -8,7 +8,7 @@ use lib.ListN.{length, getD}
 use Rattle.std.proofs.shelf.Lists.{getD-map}
 use Rattle.std.proofs.shelf.Tests.{cond-true, cond-false}
 use Rattle.std.specs.declared.result.Result.{Result}
-use Rattle.std.specs.declared.result.Result.the-variants.{Ok, Err}
+use Rattle.std.specs.declared.result.Result.the-variants.{Ok}
 use Rattle.scan.specs.Steps.{bind}
 use Rattle.scan.specs.declared.kind.ParseErrorKind.{ParseErrorKind}
 use Rattle.names.specs.declared.weekday.Weekday.{Weekday}

@@ -39,7 +39,7 @@ unfoldable pub place-from : ℕ → List (List ℕ) → List ℕ → Result ℕ 
 place-from i [] s = Err Invalid
 place-from i (n ∷ ns) s = cond (begins-alike (take 3 n) s) (Ok i) (place-from (i + 1) ns s)
 
--- the place of a name, by its short form
+-- the place of a name, by its short form, for which a text needs three bytes
 unfoldable pub short-at : List (List ℕ) → List ℕ → Result ℕ ParseErrorKind
 short-at ns s = cond (ltb (length s) 3) (Err TooShort) (place-from 0 ns s)
 

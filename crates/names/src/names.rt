@@ -74,7 +74,7 @@ fn short_name(names: &[&[u8]], s: &[u8]) -> Result<usize, ParseErrorKind>
     Err(ParseErrorKind::Invalid)
 }
 
-// How many bytes the name at a place takes whose first three letters stand in front: all of it, if all of it does.
+// How many bytes a name takes whose first three letters stand in front: all of it, if all of it stands there.
 fn name_len(names: &[&[u8]], i: usize, s: &[u8]) -> usize
     requires { ⌜ i < length (now names) ⌝ }
     ensures { λ r. ⌜ r ≡ taken (getD (texts (now (names .entry))) i []) (now (s .entry)) ⌝ }
