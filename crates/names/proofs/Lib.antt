@@ -1,0 +1,4 @@
+pub mod Alike
+pub mod Places
+pub mod Taken
+pub mod Values
