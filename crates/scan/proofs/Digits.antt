@@ -34,8 +34,8 @@ one-more : (lo hi v i : ℕ) (s : List ℕ) → i < length s
     → numeral-from lo hi v i (drop i s)
     ≡ cond (leb hi i) (Ok (v, i))
     (cond (asciiDigit (getD s i 0))
-     (cond (leb (v * 10 + (getD s i 0 - 48)) largest) (numeral-from lo hi (v * 10 + (getD s i 0 - 48)) (i + 1) (drop (i + 1) s)) (Err OutOfRange))
-     (cond (ltb i lo) (Err Invalid) (Ok (v, i))))
+    (cond (leb (v * 10 + (getD s i 0 - 48)) largest) (numeral-from lo hi (v * 10 + (getD s i 0 - 48)) (i + 1) (drop (i + 1) s)) (Err OutOfRange))
+    (cond (ltb i lo) (Err Invalid) (Ok (v, i))))
 one-more lo hi v i s h = at-drop-more (numeral-from lo hi v i) s i 0 h
 
 pub no-more : (lo hi v i : ℕ) (s : List ℕ) → length s ≤ i → numeral-from lo hi v i (drop i s) ≡ Ok (v, i)
@@ -113,8 +113,8 @@ more-from lo hi v n (b ∷ bs) =
     let P : Result (ℕ × ℕ) ParseErrorKind → Type 0 = λ x. made x (λ p. More hi v n (b ∷ bs) (p .0) (p .1)) in
     cond-both (leb hi n) (Ok (v, n)) _ P (λ _. stays hi v n (b ∷ bs))
     (λ h. cond-both (asciiDigit b) _ _ P
-        (λ d. cond-both (leb (v * 10 + (b - 48)) largest) _ (Err OutOfRange) P (λ _. made-more hi v n b bs _ h d (more-from lo hi (v * 10 + (b - 48)) (n + 1) bs)) (λ _. tt))
-        (λ _. cond-both (ltb n lo) (Err Invalid) (Ok (v, n)) P (λ _. tt) (λ _. stays hi v n (b ∷ bs))))
+    (λ d. cond-both (leb (v * 10 + (b - 48)) largest) _ (Err OutOfRange) P (λ _. made-more hi v n b bs _ h d (more-from lo hi (v * 10 + (b - 48)) (n + 1) bs)) (λ _. tt))
+    (λ _. cond-both (ltb n lo) (Err Invalid) (Ok (v, n)) P (λ _. tt) (λ _. stays hi v n (b ∷ bs))))
 
 pub numeral-more : (lo hi : ℕ) (s : List ℕ) → made (numeral-at lo hi s) (λ p. More hi 0 0 s (p .0) (p .1))
 unfolding numeral-at

@@ -81,9 +81,10 @@ pub nanosecond-ok : (s rest : List ℕ) (v n k : ℕ) → Ok (v, n) ≡ fraction
     → (Ok (v, n + k) ≡ nanosecond-at s) × Cut s (n + k)
 unfolding nanosecond-at
 nanosecond-ok s rest v n k e c r d =
-    let q : k ≡ digits-at (drop n s) = d ∙ ap digits-at r in
-    (ap (λ x. Ok (v, n + x)) q ∙ then-ok (fraction-at 1 9 s) (λ p. Ok (p .0, p .1 + digits-at (drop (p .1) s))) (v, n) e,
-        subst (λ x. Cut s (n + x)) (sym q) (cut-more s n (digits-at (drop n s)) c (digits-cut (drop n s))))
+    let q : k ≡ digits-at (drop n s) = d ∙ ap digits-at r in (
+      ap (λ x. Ok (v, n + x)) q ∙ then-ok (fraction-at 1 9 s) (λ p. Ok (p .0, p .1 + digits-at (drop (p .1) s))) (v, n) e,
+      subst (λ x. Cut s (n + x)) (sym q) (cut-more s n (digits-at (drop n s)) c (digits-cut (drop n s))),
+    )
 
 pub nanosecond-err : (s : List ℕ) (d : ParseErrorKind) → Err d ≡ fraction-at 1 9 s → Err d ≡ nanosecond-at s
 unfolding nanosecond-at

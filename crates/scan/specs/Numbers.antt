@@ -25,8 +25,8 @@ numeral-from least most v n [] = Ok (v, n)
 numeral-from least most v n (b ∷ bs) =
     cond (leb most n) (Ok (v, n))
     (cond (asciiDigit b)
-     (cond (leb (v * 10 + (b - 48)) largest) (numeral-from least most (v * 10 + (b - 48)) (n + 1) bs) (Err OutOfRange))
-     (cond (ltb n least) (Err Invalid) (Ok (v, n))))
+    (cond (leb (v * 10 + (b - 48)) largest) (numeral-from least most (v * 10 + (b - 48)) (n + 1) bs) (Err OutOfRange))
+    (cond (ltb n least) (Err Invalid) (Ok (v, n))))
 
 -- a number of `least` to `most` digits, with the count of them
 unfoldable pub numeral-at : ℕ → ℕ → List ℕ → Result (ℕ × ℕ) ParseErrorKind

@@ -32,14 +32,16 @@ impl ParseErrorKind {
 
 pub impl fmt::Display for ParseErrorKind as ParseErrorKindDisplay {
     fn fmt<W: fmt::Write>(&self, f: &mut fmt::Formatter<W>) -> fmt::Result {
-        f.write_str(match *self {
-            ParseErrorKind::OutOfRange => "input is out of range",
-            ParseErrorKind::Impossible => "no possible date and time matching input",
-            ParseErrorKind::Invalid => "input contains invalid characters",
-            ParseErrorKind::TooShort => "premature end of input",
-            ParseErrorKind::TooLong => "trailing input",
-            ParseErrorKind::BadFormat => "bad or unsupported format string",
-            ParseErrorKind::NotText => "input is not UTF-8",
-        })
+        f.write_str(
+            match *self {
+                ParseErrorKind::OutOfRange => "input is out of range",
+                ParseErrorKind::Impossible => "no possible date and time matching input",
+                ParseErrorKind::Invalid => "input contains invalid characters",
+                ParseErrorKind::TooShort => "premature end of input",
+                ParseErrorKind::TooLong => "trailing input",
+                ParseErrorKind::BadFormat => "bad or unsupported format string",
+                ParseErrorKind::NotText => "input is not UTF-8",
+            },
+        )
     }
 }

@@ -23,7 +23,11 @@ pub fn number(s: &[u8], min: usize, max: usize) -> Result<(i64, usize), ParseErr
             return Ok((n, i));
         }
         if !b.is_ascii_digit() {
-            return if i < min { Err(ParseErrorKind::Invalid) } else { Ok((n, i)) };
+            return if i < min {
+                Err(ParseErrorKind::Invalid)
+            } else {
+                Ok((n, i))
+            };
         }
         let Some(tens) = n.checked_mul(10) else {
             return Err(ParseErrorKind::OutOfRange);
@@ -50,7 +54,18 @@ fn digits(s: &[u8]) -> usize
 }
 
 // By how much a fraction of so many digits is scaled to nanoseconds.
-const SCALE: [u32; 10] = [1_000_000_000, 100_000_000, 10_000_000, 1_000_000, 100_000, 10_000, 1_000, 100, 10, 1];
+const SCALE: [u32; 10] = [
+    1_000_000_000,
+    100_000_000,
+    10_000_000,
+    1_000_000,
+    100_000,
+    10_000,
+    1_000,
+    100,
+    10,
+    1,
+];
 
 // A fraction of a second of `min` to `max` digits, as nanoseconds.
 fn fraction(s: &[u8], min: usize, max: usize) -> Result<(u32, usize), ParseErrorKind>

@@ -62,20 +62,20 @@ front (suc most) s (Some c) e l =
     let n = run any-char rest in
     let w = run-cut any-char rest .within in
     let q : s ≡ (encode c ++ take n rest) ++ drop n rest
-        = t .1 ∙ (ap (λ x. encode c ++ x) (sym (take-append-drop n rest)) ∙ sym (append-assoc (encode c) (take n rest) (drop n rest))) in
+    = t .1 ∙ (ap (λ x. encode c ++ x) (sym (take-append-drop n rest)) ∙ sym (append-assoc (encode c) (take n rest) (drop n rest))) in
     let z : length (encode c ++ take n rest) ≡ width c + n
-        = length-append (encode c) (take n rest) ∙ (ap (λ x. x + length (take n rest)) (length-encode c) ∙ ap (λ x. width c + x) (length-take-le n rest w)) in
+    = length-append (encode c) (take n rest) ∙ (ap (λ x. x + length (take n rest)) (length-encode c) ∙ ap (λ x. width c + x) (length-take-le n rest w)) in
     let f : take (width c + n) s ≡ encode c ++ take n rest
-        = ap (take (width c + n)) q ∙ take-at (encode c ++ take n rest) (drop n rest) (width c + n) z in
+    = ap (take (width c + n)) q ∙ take-at (encode c ++ take n rest) (drop n rest) (width c + n) z in
     subst (λ x. Utf8 (take x s)) (sym m) (subst Utf8 (sym f) (utf8-append (encode c) (take n rest) (utf8-encode c (t .0)) u))
 
 pub longest-end : (s : List ℕ) → Longest s (text-end s)
 unfolding text-end
 longest-end s =
     record {
-        within = run-cut any-char s .within;
-        front = front (length s) s _ refl (omega arith);
-        most = λ m h l u. let a = at-most s m l u in omega arith
+      within = run-cut any-char s .within;
+      front = front (length s) s _ refl (omega arith);
+      most = λ m h l u. let a = at-most s m l u in omega arith;
     }
 
 -- there is one such length

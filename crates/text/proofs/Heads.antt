@@ -54,12 +54,12 @@ front-there : (s : List ℕ) (cs : List ℕ) (c : ℕ) → in-front s cs ≡ Som
 front-there s [] c e = absurd (let z : _≡_ {A = ℕ} 0 1 = cc in omega arith)
 front-there s (d ∷ ds) c e =
     ⊎-elim (λ t.
-        let p = and-parts (scalar d) (begins (encode d) s) t in
-        let f = begins-front (encode d) s (p .1) in
-        let q : Some d ≡ Some c = sym (cond-true (scalar d && begins (encode d) s) (Some d) None t) ∙ e in
-        let w : d ≡ c = cc in
-        let r : s ≡ encode d ++ drop (width d) s = f .1 ∙ ap (λ l. encode d ++ l) (sym (rest-is s (f .0) d (f .1))) in
-        (rw (← w) (p .0), rw (← w) r))
+    let p = and-parts (scalar d) (begins (encode d) s) t in
+    let f = begins-front (encode d) s (p .1) in
+    let q : Some d ≡ Some c = sym (cond-true (scalar d && begins (encode d) s) (Some d) None t) ∙ e in
+    let w : d ≡ c = cc in
+    let r : s ≡ encode d ++ drop (width d) s = f .1 ∙ ap (λ l. encode d ++ l) (sym (rest-is s (f .0) d (f .1))) in
+    (rw (← w) (p .0), rw (← w) r))
     (λ f. let q : None ≡ Some c = sym (cond-false (scalar d && begins (encode d) s) (Some d) None f) ∙ e in absurd (let z : _≡_ {A = ℕ} 0 1 = cc in omega arith))
     (cases-bool (scalar d && begins (encode d) s))
 
@@ -72,9 +72,9 @@ no-front : (s cs : List ℕ) → NoChar s → in-front s cs ≡ None
 no-front s [] n = refl
 no-front s (d ∷ ds) n =
     ⊎-elim (λ t.
-        let p = and-parts (scalar d) (begins (encode d) s) t in
-        let f = begins-front (encode d) s (p .1) in
-        absurd (n d (f .0) (p .0) (f .1)))
+    let p = and-parts (scalar d) (begins (encode d) s) t in
+    let f = begins-front (encode d) s (p .1) in
+    absurd (n d (f .0) (p .0) (f .1)))
     (λ f. cond-false (scalar d && begins (encode d) s) (Some d) None f) (cases-bool (scalar d && begins (encode d) s))
 
 -- no encoding stands in front, so no character does

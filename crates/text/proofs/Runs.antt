@@ -32,7 +32,7 @@ by-width p s zero e l h = absurd (omega arith)
 by-width p [] (suc k) e l h = absurd (omega arith)
 by-width p (b ∷ bs) (suc k) e l h =
     let q : run-from p k bs ≡ k + run p (drop k bs)
-        = ap (run-from p k) (sym (take-append-drop k bs)) ∙ skips p k (take k bs) (drop k bs) (length-take-le k bs (omega arith)) in
+    = ap (run-from p k) (sym (take-append-drop k bs)) ∙ skips p k (take k bs) (drop k bs) (length-take-le k bs (omega arith)) in
     subst (λ x. one-more x (λ n. run-from p n bs) ≡ suc k + run p (drop k bs)) (sym e) (omega arith)
 
 by-none : (p : ℕ → Bool) (s : List ℕ) → passing p (first-char s) ≡ 0 → run p s ≡ 0

@@ -184,8 +184,8 @@ minutes-cut missing (a ∷ b ∷ bs) =
     let P = Cuts {A = ℕ} (a ∷ b ∷ bs) in
     cond-both (asciiDigit b) _ (Err Invalid) P
     (λ e. cond-both (within 48 53 a) (Ok (pair a b, 2)) _ P
-        (λ f. let q = and-parts (leb 48 a) (leb a 53) f in let l = leb-true a 53 (q .1) in two-cut a b bs e (omega arith))
-        (λ _. cond-both (within 54 57 a) (Err OutOfRange) (Err Invalid) P (λ _. tt) (λ _. tt)))
+    (λ f. let q = and-parts (leb 48 a) (leb a 53) f in let l = leb-true a 53 (q .1) in two-cut a b bs e (omega arith))
+    (λ _. cond-both (within 54 57 a) (Err OutOfRange) (Err Invalid) P (λ _. tt) (λ _. tt)))
     (λ _. tt)
 
 separated-cut : (sep : Meaning) (missing : Bool) (s : List ℕ) → ((t : List ℕ) → Cuts-mark t (sep t)) → Cuts s (separated-at sep missing s)
@@ -193,18 +193,18 @@ unfolding separated-at
 separated-cut sep missing s law =
     made-bind (sep s) _ (λ p. Cut s (p .1))
     (made-weaker (sep s) (λ k. Cut s k) _
-        (λ k c. made-bind (minutes-at missing (drop k s)) _ (λ p. Cut s (p .1))
-            (made-weaker (minutes-at missing (drop k s)) (λ m. Cut (drop k s) (m .1)) _ (λ m d. cut-more s k (m .1) c d) (minutes-cut missing (drop k s))))
-        (law s))
+    (λ k c. made-bind (minutes-at missing (drop k s)) _ (λ p. Cut s (p .1))
+    (made-weaker (minutes-at missing (drop k s)) (λ m. Cut (drop k s) (m .1)) _ (λ m d. cut-more s k (m .1) c d) (minutes-cut missing (drop k s))))
+    (law s))
 
 signed-hours-cut : (minus : Bool) (s : List ℕ) → made (signed-hours-at minus s) (λ p. Cut s (p .2))
 unfolding signed-hours-at
 signed-hours-cut minus s =
     made-bind (sign-at minus s) _ (λ p. Cut s (p .2))
     (made-weaker (sign-at minus s) (λ g. Cut s (g .1)) _
-        (λ g c. made-bind (hours-at (drop (g .1) s)) _ (λ p. Cut s (p .2))
-            (made-weaker (hours-at (drop (g .1) s)) (λ _. Cut (drop (g .1) s) 2) _ (λ h d. cut-more s (g .1) 2 c d) (hours-cut (drop (g .1) s))))
-        (sign-cut minus s))
+    (λ g c. made-bind (hours-at (drop (g .1) s)) _ (λ p. Cut s (p .2))
+    (made-weaker (hours-at (drop (g .1) s)) (λ _. Cut (drop (g .1) s) 2) _ (λ h d. cut-more s (g .1) 2 c d) (hours-cut (drop (g .1) s))))
+    (sign-cut minus s))
 
 zulu-cut : (s : List ℕ) → zulu-at s ≡ true → Cut s 1
 zulu-cut [] e = absurd (true≢false (sym e))
@@ -217,9 +217,9 @@ unfolding numeric-at
 numeric-cut sep missing minus s law =
     made-bind (signed-hours-at minus s) _ (λ p. Cut s (p .1))
     (made-weaker (signed-hours-at minus s) (λ h. Cut s (h .2)) _
-        (λ h c. made-bind (separated-at sep missing (drop (h .2) s)) _ (λ p. Cut s (p .1))
-            (made-weaker (separated-at sep missing (drop (h .2) s)) (λ m. Cut (drop (h .2) s) (m .1)) _ (λ m d. cut-more s (h .2) (m .1) c d) (separated-cut sep missing (drop (h .2) s) law)))
-        (signed-hours-cut minus s))
+    (λ h c. made-bind (separated-at sep missing (drop (h .2) s)) _ (λ p. Cut s (p .1))
+    (made-weaker (separated-at sep missing (drop (h .2) s)) (λ m. Cut (drop (h .2) s) (m .1)) _ (λ m d. cut-more s (h .2) (m .1) c d) (separated-cut sep missing (drop (h .2) s) law)))
+    (signed-hours-cut minus s))
 
 pub offset-cut : (sep : Meaning) (zulu missing minus : Bool) (s : List ℕ) → ((t : List ℕ) → Cuts-mark t (sep t)) → Cuts s (offset-at sep zulu missing minus s)
 unfolding offset-at
@@ -232,13 +232,13 @@ unfolding double-colon-at
 double-colon-cut sep minus s law =
     made-bind (signed-hours-at minus s) _ (λ p. Cut s (p .1))
     (made-weaker (signed-hours-at minus s) (λ h. Cut s (h .2)) _
-        (λ h c. made-bind (separated-at sep false (drop (h .2) s)) _ (λ p. Cut s (p .1))
-            (made-weaker (separated-at sep false (drop (h .2) s)) (λ m. Cut (drop (h .2) s) (m .1)) _
-                (λ m d. made-bind (separated-at sep false (drop (h .2 + m .1) s)) _ (λ p. Cut s (p .1))
-                    (made-weaker (separated-at sep false (drop (h .2 + m .1) s)) (λ t. Cut (drop (h .2 + m .1) s) (t .1)) _
-                        (λ t f. cut-more s (h .2 + m .1) (t .1) (cut-more s (h .2) (m .1) c d) f) (separated-cut sep false (drop (h .2 + m .1) s) law)))
-                (separated-cut sep false (drop (h .2) s) law)))
-        (signed-hours-cut minus s))
+    (λ h c. made-bind (separated-at sep false (drop (h .2) s)) _ (λ p. Cut s (p .1))
+    (made-weaker (separated-at sep false (drop (h .2) s)) (λ m. Cut (drop (h .2) s) (m .1)) _
+    (λ m d. made-bind (separated-at sep false (drop (h .2 + m .1) s)) _ (λ p. Cut s (p .1))
+    (made-weaker (separated-at sep false (drop (h .2 + m .1) s)) (λ t. Cut (drop (h .2 + m .1) s) (t .1)) _
+    (λ t f. cut-more s (h .2 + m .1) (t .1) (cut-more s (h .2) (m .1) c d) f) (separated-cut sep false (drop (h .2 + m .1) s) law)))
+    (separated-cut sep false (drop (h .2) s) law)))
+    (signed-hours-cut minus s))
 
 pub triple-colon-cut : (minus : Bool) (s : List ℕ) → Cuts s (triple-colon-at minus s)
 unfolding triple-colon-at

@@ -78,8 +78,8 @@ unfoldable pub double-colon-at : Meaning → Bool → List ℕ → Result (ℤ �
 double-colon-at sep minus s =
     bind (signed-hours-at minus s)
     (λ h. bind (separated-at sep false (drop (h .2) s))
-     (λ m. bind (separated-at sep false (drop (h .2 + m .1) s))
-      (λ t. Ok (signed (h .0) (h .1 * 3600 + m .0 * 60 + t .0), h .2 + m .1 + t .1))))
+    (λ m. bind (separated-at sep false (drop (h .2 + m .1) s))
+    (λ t. Ok (signed (h .0) (h .1 * 3600 + m .0 * 60 + t .0), h .2 + m .1 + t .1))))
 
 -- hours alone
 unfoldable pub triple-colon-at : Bool → List ℕ → Result (ℤ × ℕ) ParseErrorKind

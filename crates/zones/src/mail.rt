@@ -13,7 +13,16 @@ use scan::kind::ParseErrorKind;
 
 // RFC 2822, section 4.3: by how many hours a zone is behind UTC.
 const ZONES: [(&[u8], u32); 10] = [
-    (b"ut", 0), (b"gmt", 0), (b"edt", 4), (b"est", 5), (b"cdt", 5), (b"cst", 6), (b"mdt", 6), (b"mst", 7), (b"pdt", 7), (b"pst", 8),
+    (b"ut", 0),
+    (b"gmt", 0),
+    (b"edt", 4),
+    (b"est", 5),
+    (b"cdt", 5),
+    (b"cst", 6),
+    (b"mdt", 6),
+    (b"mst", 7),
+    (b"pdt", 7),
+    (b"pst", 8),
 ];
 
 // How many ASCII letters stand in front.

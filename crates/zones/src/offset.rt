@@ -85,7 +85,11 @@ fn minutes(s: &[u8], allow_missing: bool) -> Result<(u32, usize), ParseErrorKind
 }
 
 // The separator, and then minutes or seconds.
-fn separated<S: Separator>(s: &[u8], sep: &mut S, allow_missing: bool) -> Result<(u32, usize), ParseErrorKind>
+fn separated<S: Separator>(
+    s: &[u8],
+    sep: &mut S,
+    allow_missing: bool,
+) -> Result<(u32, usize), ParseErrorKind>
     ensures value { λ r. ⌜ r ≡ separated-at (means (now (sep .entry))) «allow_missing» (now (s .entry)) ⌝ }
     ensures within { λ r. ⌜ made r (λ p. (p .0 < 60) × (p .1 ≤ length (now (s .entry)))) ⌝ }
     ensures same { λ _. ⌜ ((t : List ℕ) → means (now (sep .exit)) t ≡ means (now (sep .entry)) t) ⌝ }
@@ -109,7 +113,11 @@ pub(super) fn in_seconds(negative: bool, seconds: u32) -> i32
     requires { ⌜ seconds < 1000000 ⌝ }
     ensures { λ r. ⌜ r ≡ signed negative seconds ⌝ }
 {
-    if negative { -(seconds as i32) } else { seconds as i32 }
+    if negative {
+        -(seconds as i32)
+    } else {
+        seconds as i32
+    }
 }
 
 // Does Z stand in front, which is UTC, where it is allowed?
@@ -123,7 +131,12 @@ fn is_zulu(s: &[u8], allow_zulu: bool) -> bool
 }
 
 // An offset of hours and minutes, in seconds.
-fn numeric_offset<S: Separator>(s: &[u8], sep: &mut S, allow_missing_minutes: bool, allow_tz_minus_sign: bool) -> Result<(i32, usize), ParseErrorKind>
+fn numeric_offset<S: Separator>(
+    s: &[u8],
+    sep: &mut S,
+    allow_missing_minutes: bool,
+    allow_tz_minus_sign: bool,
+) -> Result<(i32, usize), ParseErrorKind>
     ensures value { λ r. ⌜ r ≡ numeric-at (means (now (sep .entry))) «allow_missing_minutes» «allow_tz_minus_sign» (now (s .entry)) ⌝ }
     ensures same { λ _. ⌜ ((t : List ℕ) → means (now (sep .exit)) t ≡ means (now (sep .entry)) t) ⌝ }
 {
@@ -133,7 +146,13 @@ fn numeric_offset<S: Separator>(s: &[u8], sep: &mut S, allow_missing_minutes: bo
 }
 
 // An offset of hours and minutes, in seconds; Z, missing minutes and the sign U+2212 only where they are allowed.
-pub fn timezone_offset<S: Separator>(s: &[u8], sep: &mut S, allow_zulu: bool, allow_missing_minutes: bool, allow_tz_minus_sign: bool) -> Result<(i32, usize), ParseErrorKind>
+pub fn timezone_offset<S: Separator>(
+    s: &[u8],
+    sep: &mut S,
+    allow_zulu: bool,
+    allow_missing_minutes: bool,
+    allow_tz_minus_sign: bool,
+) -> Result<(i32, usize), ParseErrorKind>
     ensures value { λ r. ⌜ r ≡ offset-at (means (now (sep .entry))) «allow_zulu» «allow_missing_minutes» «allow_tz_minus_sign» (now (s .entry)) ⌝ }
     ensures cut { λ r. ⌜ Cuts (now (s .entry)) r ⌝ }
     ensures same { λ _. ⌜ ((t : List ℕ) → means (now (sep .exit)) t ≡ means (now (sep .entry)) t) ⌝ }
@@ -145,7 +164,11 @@ pub fn timezone_offset<S: Separator>(s: &[u8], sep: &mut S, allow_zulu: bool, al
 }
 
 // An offset of hours, minutes and seconds, as `TimezoneOffsetDoubleColon` is documented: the separator runs twice.
-pub fn timezone_offset_double_colon<S: Separator>(s: &[u8], sep: &mut S, allow_tz_minus_sign: bool) -> Result<(i32, usize), ParseErrorKind>
+pub fn timezone_offset_double_colon<S: Separator>(
+    s: &[u8],
+    sep: &mut S,
+    allow_tz_minus_sign: bool,
+) -> Result<(i32, usize), ParseErrorKind>
     ensures value { λ r. ⌜ r ≡ double-colon-at (means (now (sep .entry))) «allow_tz_minus_sign» (now (s .entry)) ⌝ }
     ensures cut { λ r. ⌜ Cuts (now (s .entry)) r ⌝ }
     ensures same { λ _. ⌜ ((t : List ℕ) → means (now (sep .exit)) t ≡ means (now (sep .entry)) t) ⌝ }
@@ -153,11 +176,17 @@ pub fn timezone_offset_double_colon<S: Separator>(s: &[u8], sep: &mut S, allow_t
     let (negative, hours, n) = signed_hours(s, allow_tz_minus_sign)?;
     let (minutes, m) = separated(&s[n..], sep, false)?;
     let (seconds, k) = separated(&s[n + m..], sep, false)?;
-    Ok((in_seconds(negative, hours * 3600 + minutes * 60 + seconds), n + m + k))
+    Ok((
+        in_seconds(negative, hours * 3600 + minutes * 60 + seconds),
+        n + m + k,
+    ))
 }
 
 // An offset of hours alone, as `TimezoneOffsetTripleColon` is documented.
-pub fn timezone_offset_triple_colon(s: &[u8], allow_tz_minus_sign: bool) -> Result<(i32, usize), ParseErrorKind>
+pub fn timezone_offset_triple_colon(
+    s: &[u8],
+    allow_tz_minus_sign: bool,
+) -> Result<(i32, usize), ParseErrorKind>
     ensures value { λ r. ⌜ r ≡ triple-colon-at «allow_tz_minus_sign» (now (s .entry)) ⌝ }
     ensures cut { λ r. ⌜ Cuts (now (s .entry)) r ⌝ }
 {

@@ -32,7 +32,7 @@ pub chars-again : need.chars-again
 unfolding blank
 chars-again c =
     let b : blank (c .in-Some .c) ≡ true
-        = sym (c .loop-b .inv .1) ∙ found (c .in-Some .c) white-space (c .loop-b .b-index) (c .loop-b-test .taken) (c .if-c-b .taken) in
+    = sym (c .loop-b .inv .1) ∙ found (c .in-Some .c) white-space (c .loop-b .b-index) (c .loop-b-test .taken) (c .if-c-b .taken) in
     going-more blank (c .args .s .now) (c .chars .n) (c .chars .inv) (c .in-Some .c) (c .loop-b .n) (c .len-utf8-n .result)
     (c .in-Some .ensures tt) b (c .loop-b .inv .0) (c .len-utf8-n .ensures .value)
 
@@ -40,11 +40,11 @@ pub returns-after-loop-b : need.returns-after-loop-b
 unfolding blank blanks-at
 returns-after-loop-b c =
     let b : blank (c .in-Some .c) ≡ false
-        = sym (c .loop-b .inv .1) ∙ missed (c .in-Some .c) white-space (c .loop-b .b-index) (c .loop-b-test .left) in
+    = sym (c .loop-b .inv .1) ∙ missed (c .in-Some .c) white-space (c .loop-b .b-index) (c .loop-b-test .left) in
     let i = c .loop-b .inv .0 in
     record {
-        value = i ∙ going-stop blank (c .args .s .now) (c .chars .n) (c .chars .inv) (c .in-Some .c) (c .in-Some .ensures tt) b;
-        cut = subst (λ k. Cut (c .args .s .now) k) (sym i) (c .chars .inv .cut)
+      value = i ∙ going-stop blank (c .args .s .now) (c .chars .n) (c .chars .inv) (c .in-Some .c) (c .in-Some .ensures tt) b;
+      cut = subst (λ k. Cut (c .args .s .now) k) (sym i) (c .chars .inv .cut);
     }
 
 pub returns-in-rest : need.returns-in-rest

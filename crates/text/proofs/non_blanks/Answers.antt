@@ -30,7 +30,7 @@ pub chars-again : need.chars-again
 unfolding blank
 chars-again c =
     let b : not-blank (c .in-Some .c) ≡ true
-        = ap not (sym (c .loop-b .inv) ∙ missed (c .in-Some .c) white-space (c .loop-b .b-index) (c .loop-b-test .left)) in
+    = ap not (sym (c .loop-b .inv) ∙ missed (c .in-Some .c) white-space (c .loop-b .b-index) (c .loop-b-test .left)) in
     going-more not-blank (c .args .s .now) (c .chars .n) (c .chars .inv) (c .in-Some .c) (c .chars .n) (c .len-utf8-n .result)
     (c .in-Some .ensures tt) b refl (c .len-utf8-n .ensures .value)
 
@@ -38,10 +38,10 @@ pub returns-then-c-b : need.returns-then-c-b
 unfolding blank non-blanks-at
 returns-then-c-b c =
     let b : not-blank (c .in-Some .c) ≡ false
-        = ap not (sym (c .loop-b .inv) ∙ found (c .in-Some .c) white-space (c .loop-b .b-index) (c .loop-b-test .taken) (c .if-c-b .taken)) in
+    = ap not (sym (c .loop-b .inv) ∙ found (c .in-Some .c) white-space (c .loop-b .b-index) (c .loop-b-test .taken) (c .if-c-b .taken)) in
     record {
-        value = going-stop not-blank (c .args .s .now) (c .chars .n) (c .chars .inv) (c .in-Some .c) (c .in-Some .ensures tt) b;
-        cut = c .chars .inv .cut
+      value = going-stop not-blank (c .args .s .now) (c .chars .n) (c .chars .inv) (c .in-Some .c) (c .in-Some .ensures tt) b;
+      cut = c .chars .inv .cut;
     }
 
 pub returns-in-rest : need.returns-in-rest

@@ -13,9 +13,9 @@ whole : (bs ts : List ℕ) → ts ≡ bs → Utf8 bs → Longest bs (length ts)
 whole bs ts e u =
     let l : length ts ≡ length bs = ap length e in
     record {
-        within = omega arith;
-        front = subst Utf8 (sym (take-all (length ts) bs (omega arith))) u;
-        most = λ m p q _. omega arith
+      within = omega arith;
+      front = subst Utf8 (sym (take-all (length ts) bs (omega arith))) u;
+      most = λ m p q _. omega arith;
     }
 
 part : (bs : List ℕ) (n m : ℕ) → ValidUpTo bs n → m ≡ n → Longest bs m

@@ -15,9 +15,9 @@ pub returns-in-Break-v : need.returns-in-Break-v
 returns-in-Break-v c =
     let p = err-from-errBy (c .from-residual .result) (c .from-residual .ensures .1) in
     record {
-        value = exits _ _ (p .0) (c .in-Break-v .field-0 .0) (p .1) (p .2) (fraction-err (c .args .min) (c .args .max) (c .args .s .now) _ (c .in-Break-v .ensures tt .value));
-        cut = made-from-err _ _ (c .from-residual .ensures .0);
-        bound = made-from-err _ _ (c .from-residual .ensures .0)
+      value = exits _ _ (p .0) (c .in-Break-v .field-0 .0) (p .1) (p .2) (fraction-err (c .args .min) (c .args .max) (c .args .s .now) _ (c .in-Break-v .ensures tt .value));
+      cut = made-from-err _ _ (c .from-residual .ensures .0);
+      bound = made-from-err _ _ (c .from-residual .ensures .0);
     }
 
 pub returns : need.returns

@@ -16,8 +16,8 @@ pub returns-in-Break-nanos : need.returns-in-Break-nanos
 returns-in-Break-nanos c =
     let p = err-from-errBy (c .from-residual .result) (c .from-residual .ensures .1) in
     record {
-        value = exits _ _ (p .0) (c .in-Break-nanos .field-0 .0) (p .1) (p .2) (fixed-err (digits-of (c .args .precision)) _ (c .args .s .now) _ (c .in-Break-nanos .ensures tt .value) (c .digits-digits .ensures .value));
-        cut = made-from-err _ _ (c .from-residual .ensures .0)
+      value = exits _ _ (p .0) (c .in-Break-nanos .field-0 .0) (p .1) (p .2) (fixed-err (digits-of (c .args .precision)) _ (c .args .s .now) _ (c .in-Break-nanos .ensures tt .value) (c .digits-digits .ensures .value));
+      cut = made-from-err _ _ (c .from-residual .ensures .0);
     }
 
 pub returns : need.returns

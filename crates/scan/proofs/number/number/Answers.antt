@@ -19,9 +19,9 @@ pub returns-then-i-max : need.returns-then-i-max
 returns-then-i-max c =
     let v = says-ok (c .args .min) (c .args .max) (c .args .s .now) (c .if-s-min .left) _ (c .loop-i .i) (c .loop-i .inv) (at-most (c .args .min) (c .args .max) (c .loop-i .inv .0) (c .loop-i .i) (c .args .s .now) (c .loop-i-test .taken) (c .if-i-max .taken)) in
     record {
-        value = v;
-        cut = cuts-by _ _ _ v (number-cut (c .args .min) (c .args .max) (c .args .s .now));
-        written = made-by _ _ _ v (number-written (c .args .min) (c .args .max) (c .args .s .now))
+      value = v;
+      cut = cuts-by _ _ _ v (number-cut (c .args .min) (c .args .max) (c .args .s .now));
+      written = made-by _ _ _ v (number-written (c .args .min) (c .args .max) (c .args .s .now));
     }
 
 pub returns-then-i-min : need.returns-then-i-min
@@ -32,9 +32,9 @@ pub returns-else-i-min : need.returns-else-i-min
 returns-else-i-min c =
     let v = says-ok (c .args .min) (c .args .max) (c .args .s .now) (c .if-s-min .left) _ (c .loop-i .i) (c .loop-i .inv) (enough (c .args .min) (c .args .max) (c .loop-i .inv .0) (c .loop-i .i) (c .args .s .now) (c .loop-i-test .taken) (c .if-i-max .left) (sym (c .if-not-is-ascii-digit .ensures tt .value)) (c .if-i-min .left)) in
     record {
-        value = v;
-        cut = cuts-by _ _ _ v (number-cut (c .args .min) (c .args .max) (c .args .s .now));
-        written = made-by _ _ _ v (number-written (c .args .min) (c .args .max) (c .args .s .now))
+      value = v;
+      cut = cuts-by _ _ _ v (number-cut (c .args .min) (c .args .max) (c .args .s .now));
+      written = made-by _ _ _ v (number-written (c .args .min) (c .args .max) (c .args .s .now));
     }
 
 pub returns-in-rest : need.returns-in-rest
@@ -57,9 +57,12 @@ loop-i-again c =
     let z = added _ (c .in-Some .tens) (c .loop-i .inv .0) d (c .loop-i .inv .1) (c .in-Some .ensures tt) (omega arith) in
     let f = c .in-Some-checked-add .ensures tt in
     let p = under _ _ z (f .0) in
-    let q : c .in-Some-checked-add .sum ≡ pos (c .loop-i .inv .0 * 10 + d) = f .1 ∙ z in
-    (c .loop-i .inv .0 * 10 + d, rw (q, toZ-pos w64 (c .loop-i .inv .0 * 10 + d) (omega arith)) refl, p,
-        sym (goes-on (c .args .min) (c .args .max) (c .loop-i .inv .0) (c .loop-i .i) (c .args .s .now) (c .loop-i-test .taken) (c .if-i-max .left) (sym (c .if-not-is-ascii-digit .ensures tt .value)) (omega arith)) ∙ c .loop-i .inv .3)
+    let q : c .in-Some-checked-add .sum ≡ pos (c .loop-i .inv .0 * 10 + d) = f .1 ∙ z in (
+      c .loop-i .inv .0 * 10 + d,
+      rw (q, toZ-pos w64 (c .loop-i .inv .0 * 10 + d) (omega arith)) refl,
+      p,
+      sym (goes-on (c .args .min) (c .args .max) (c .loop-i .inv .0) (c .loop-i .i) (c .args .s .now) (c .loop-i-test .taken) (c .if-i-max .left) (sym (c .if-not-is-ascii-digit .ensures tt .value)) (omega arith)) ∙ c .loop-i .inv .3,
+    )
 
 pub returns : need.returns
 returns c =
@@ -67,7 +70,7 @@ returns c =
     let l : c .loop-i .i ≡ length (c .args .s .now) = omega arith in
     let v = rw l at (says-ok (c .args .min) (c .args .max) (c .args .s .now) (c .if-s-min .left) _ (c .loop-i .i) (c .loop-i .inv) e) in
     record {
-        value = v;
-        cut = cuts-by _ _ _ v (number-cut (c .args .min) (c .args .max) (c .args .s .now));
-        written = made-by _ _ _ v (number-written (c .args .min) (c .args .max) (c .args .s .now))
+      value = v;
+      cut = cuts-by _ _ _ v (number-cut (c .args .min) (c .args .max) (c .args .s .now));
+      written = made-by _ _ _ v (number-written (c .args .min) (c .args .max) (c .args .s .now));
     }

@@ -16,8 +16,8 @@ pub returns-in-Break-year : need.returns-in-Break-year
 returns-in-Break-year c =
     let p = err-from-errBy (c .from-residual .result) (c .from-residual .ensures .1) in
     record {
-        value = exits _ _ (p .0) (c .in-Break-year .field-0 .0) (p .1) (p .2) (year-err (c .args .s .now) _ (c .in-Break-year .ensures tt .value));
-        cut = made-from-err _ _ (c .from-residual .ensures .0)
+      value = exits _ _ (p .0) (c .in-Break-year .field-0 .0) (p .1) (p .2) (year-err (c .args .s .now) _ (c .in-Break-year .ensures tt .value));
+      cut = made-from-err _ _ (c .from-residual .ensures .0);
     }
 
 pub returns : need.returns
@@ -26,5 +26,5 @@ returns c =
     let f : SFits w64 (c .in-Continue-year .year) = search needs in
     let g : SFits w64 (c .mail-year .result) = search needs in
     let y : toZ w64 (ofZ w64 (c .mail-year .result)) ≡ mail-year (c .in-Continue-year .n) (c .in-Continue-year .year)
-        = toZ-ofZ w64 (c .mail-year .result) g ∙ (c .mail-year .ensures ∙ ap (mail-year (c .in-Continue-year .n)) (toZ-ofZ w64 (c .in-Continue-year .year) f)) in
+    = toZ-ofZ w64 (c .mail-year .result) g ∙ (c .mail-year .ensures ∙ ap (mail-year (c .in-Continue-year .n)) (toZ-ofZ w64 (c .in-Continue-year .year) f)) in
     record { value = year-ok (c .args .s .now) (c .in-Continue-year .year) _ (c .in-Continue-year .n) (e .value) y; cut = e .cut }

@@ -62,4 +62,3 @@ pub returns-in-rest·6 : need.returns-in-rest·6
 returns-in-rest·6 c =
     let h = minutes-two (c .args .allow-missing) (c .args .s .now) (grind (arith, tells)) in
     record { value = grind (arith, tells); within = tt }
-

@@ -12,7 +12,7 @@ pub returns : need.returns
 returns g c =
     let v = is-numeric (g .S·Separator .means (c .args .sep .now)) (c .args .allow-zulu) (c .args .allow-missing-minutes) (c .args .allow-tz-minus-sign) (c .args .s .now) _ (c .if-is-zulu .ensures tt) (c .numeric-offset .ensures .value) in
     record {
-        value = v;
-        cut = cuts-by _ _ _ v (offset-cut (g .S·Separator .means (c .args .sep .now)) (c .args .allow-zulu) (c .args .allow-missing-minutes) (c .args .allow-tz-minus-sign) (c .args .s .now) (λ t. g .S·Separator·met .cuts (c .args .sep .now) t));
-        same = c .numeric-offset .ensures .same
+      value = v;
+      cut = cuts-by _ _ _ v (offset-cut (g .S·Separator .means (c .args .sep .now)) (c .args .allow-zulu) (c .args .allow-missing-minutes) (c .args .allow-tz-minus-sign) (c .args .s .now) (λ t. g .S·Separator·met .cuts (c .args .sep .now) t));
+      same = c .numeric-offset .ensures .same;
     }

@@ -12,8 +12,8 @@ pub returns-in-Break-negative : need.returns-in-Break-negative
 returns-in-Break-negative c =
     let p = err-from-errBy (c .from-residual .result) (c .from-residual .ensures .1) in
     record {
-        value = exits _ _ (p .0) (c .in-Break-negative .field-0 .0) (p .1) (p .2) (triple-no-hours (c .args .allow-tz-minus-sign) (c .args .s .now) _ (c .in-Break-negative .ensures tt .value));
-        cut = made-from-err _ _ (c .from-residual .ensures .0)
+      value = exits _ _ (p .0) (c .in-Break-negative .field-0 .0) (p .1) (p .2) (triple-no-hours (c .args .allow-tz-minus-sign) (c .args .s .now) _ (c .in-Break-negative .ensures tt .value));
+      cut = made-from-err _ _ (c .from-residual .ensures .0);
     }
 
 pub returns : need.returns

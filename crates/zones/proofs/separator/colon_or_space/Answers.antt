@@ -28,8 +28,8 @@ pub returns-then-not-is-colon-or-blank : need.returns-then-not-is-colon-or-blank
 unfolding colon-or-space
 returns-then-not-is-colon-or-blank c =
     record {
-        value = going-stop colon-or-blank (c .args .s .now) (c .loop-c .n) (c .loop-c .inv) (c .in-Some .c) (c .in-Some .ensures tt) (sym (c .if-not-is-colon-or-blank .ensures tt));
-        cut = c .loop-c .inv .cut
+      value = going-stop colon-or-blank (c .args .s .now) (c .loop-c .n) (c .loop-c .inv) (c .in-Some .c) (c .in-Some .ensures tt) (sym (c .if-not-is-colon-or-blank .ensures tt));
+      cut = c .loop-c .inv .cut;
     }
 
 pub returns-in-rest : need.returns-in-rest
