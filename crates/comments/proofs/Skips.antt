@@ -8,30 +8,15 @@ use native.Mathlib.Omega.{arith}
 use lib.ListN.{length, drop, length-append}
 use lib.Utf8.{encode, encodes, scalar, scalars}
 use Rattle.std.proofs.shelf.Lists.{append-assoc}
-use Rattle.std.proofs.shelf.Tests.{and-parts, and-from, cases-bool}
+use Rattle.std.proofs.shelf.Tests.{and-from, cases-bool}
 use Rattle.std.proofs.shelf.Text.{encode-ascii, length-encode, width-bounds}
 use Rattle.std.specs.Text.{width}
 use Rattle.std.specs.declared.option.Option.{Option}
 use Rattle.std.specs.declared.option.Option.the-variants.{Some, None}
-use Rattle.text.specs.Chars.{first-char, run, among, blank, blanks-at}
-use Rattle.text.proofs.Heads.{rest-is, char-there, there-char}
-use Rattle.text.proofs.Runs.{char-length, run-more, run-stop, run-none}
-use Rattle.comments.specs.Grammar.{all-blank, Blanks}
-
--- characters that are blanks, and then something else
-run-blanks : (cs rest : List ℕ) → scalars cs ≡ true → all-blank cs ≡ true → run blank (encodes cs ++ rest) ≡ length (encodes cs) + run blank rest
-run-blanks [] rest h b = omega arith
-run-blanks (c ∷ cs) rest h b =
-    let p = and-parts (scalar c) (scalars cs) h in
-    let q = and-parts (blank c) (all-blank cs) b in
-    let s = encodes (c ∷ cs) ++ rest in
-    let e : s ≡ encode c ++ (encodes cs ++ rest) = append-assoc (encode c) (encodes cs) rest in
-    let m = run-more blank s c (char-there s (encodes cs ++ rest) c (p .0) e) (q .0) .1 in
-    let d : run blank (drop (width c) s) ≡ run blank (encodes cs ++ rest) = ap (run blank) (rest-is s (encodes cs ++ rest) c e) in
-    let n = run-blanks cs rest (p .1) (q .1) in
-    let l = length-append (encode c) (encodes cs) in
-    let w = length-encode c in
-    omega arith
+use Rattle.text.specs.Chars.{first-char, run, all-pass, among, blank, blanks-at}
+use Rattle.text.proofs.Heads.{char-there, there-char}
+use Rattle.text.proofs.Runs.{char-length, run-chars, run-more, run-stop, run-none}
+use Rattle.comments.specs.Grammar.{Blanks}
 
 open-no-blank : blank 40 ≡ false
 unfolding blank among
@@ -41,7 +26,7 @@ open-no-blank = refl
 pub skipped : (ws rest : List ℕ) → Blanks ws → blanks-at (ws ++ 40 ∷ rest) ≡ length ws
 unfolding blanks-at
 skipped ws rest b =
-    let r = run-blanks (b .chars) (40 ∷ rest) (b .scalar) (b .blank) in
+    let r = run-chars blank (b .chars) (40 ∷ rest) (b .scalar) (b .blank) in
     let e : run blank (encodes (b .chars) ++ 40 ∷ rest) ≡ run blank (ws ++ 40 ∷ rest) = ap (λ x. run blank (x ++ 40 ∷ rest)) (b .bytes) in
     let l : length (encodes (b .chars)) ≡ length ws = ap length (b .bytes) in
     let z = run-stop blank (40 ∷ rest) 40 (char-there (40 ∷ rest) rest 40 refl (ap (λ x. x ++ rest) (sym (encode-ascii 40 (omega arith))))) open-no-blank in
@@ -68,7 +53,7 @@ one-more s c n h b e t =
       blanks = record {
         chars = c ∷ g .chars;
         scalar = and-from (scalar c) (scalars (g .chars)) h (g .scalar);
-        blank = and-from (blank c) (all-blank (g .chars)) b (g .blank);
+        blank = and-from (blank c) (all-pass blank (g .chars)) b (g .blank);
         bytes = ap (λ x. encode c ++ x) (g .bytes);
       };
       bytes = e ∙ (ap (λ x. encode c ++ x) (t .bytes) ∙ sym (append-assoc (encode c) (t .ws) (t .rest)));

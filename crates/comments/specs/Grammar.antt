@@ -1,7 +1,7 @@
 -- Comments by their grammar, RFC 2822, section 3.2.3: ctext, quoted-pair, ccontent and comment. White space that folds is ctext here, and
 -- ctext is any byte but the three that mean something.
 use Prim.Native.Nat.{ℕ, _+_}
-use mathlib.Core.Bool.{Bool, true, _&&_}
+use mathlib.Core.Bool.{true}
 use mathlib.Core.List.{List, [], _∷_, _++_}
 use mathlib.Core.Logic.{_≢_, _↔_}
 use mathlib.Core.Path.{_≡_}
@@ -10,7 +10,7 @@ use lib.Utf8.{encodes, scalars}
 use Rattle.std.specs.declared.result.Result.{Result}
 use Rattle.std.specs.declared.result.Result.the-variants.{Ok}
 use Rattle.scan.specs.declared.kind.ParseErrorKind.{ParseErrorKind}
-use Rattle.text.specs.Chars.{blank}
+use Rattle.text.specs.Chars.{all-pass, blank}
 
 -- neither '(' nor ')' nor '\'
 pub record Plain (b : ℕ) : Type 0 where
@@ -30,15 +30,11 @@ pub record Comment (cs : List ℕ) : Type 0 where
   pub content : Content inner
   pub bytes : cs ≡ 40 ∷ (inner ++ 41 ∷ [])
 
-abbrev pub all-blank : List ℕ → Bool
-all-blank [] = true
-all-blank (c ∷ cs) = blank c && all-blank cs
-
 -- the bytes of some characters that are all blanks
 pub record Blanks (ws : List ℕ) : Type 0 where
   pub chars : List ℕ
   pub scalar : scalars chars ≡ true
-  pub blank : all-blank chars ≡ true
+  pub blank : all-pass blank chars ≡ true
   pub bytes : encodes chars ≡ ws
 
 -- s begins with blanks and one comment, that together take n bytes

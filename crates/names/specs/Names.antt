@@ -1,14 +1,14 @@
 -- English names in front of a text, ASCII case ignored. A name's short form is its first three letters.
 use Prim.Native.Nat.{ℕ, _+_}
-use mathlib.Core.Bool.{Bool, true, false, cond, _&&_}
+use mathlib.Core.Bool.{Bool, cond}
 use mathlib.Core.List.{List, [], _∷_, map}
 use denote.Ref.{RefT}
 use lib.Chars.{codes}
-use lib.Dec.{eqb, ltb}
+use lib.Dec.{ltb}
 use lib.ListN.{length, take, getD}
-use Rattle.std.specs.Text.{lower}
 use Rattle.std.specs.declared.result.Result.{Result}
 use Rattle.std.specs.declared.result.Result.the-variants.{Ok, Err}
+use Rattle.scan.specs.Letters.{alike}
 use Rattle.scan.specs.Steps.{bind}
 use Rattle.scan.specs.declared.kind.ParseErrorKind.{ParseErrorKind}
 use Rattle.scan.specs.declared.kind.ParseErrorKind.the-variants.{Invalid, TooShort}
@@ -30,9 +30,7 @@ texts ts = map (λ t. t .now) ts
 
 -- the text begins with the letters of the word
 unfoldable pub begins-alike : List ℕ → List ℕ → Bool
-begins-alike [] s = true
-begins-alike (w ∷ ws) [] = false
-begins-alike (w ∷ ws) (b ∷ bs) = eqb (lower b) (lower w) && begins-alike ws bs
+begins-alike w s = alike (take (length w) s) w
 
 -- the place, counted from i, of the first name whose short form the text begins with
 unfoldable pub place-from : ℕ → List (List ℕ) → List ℕ → Result ℕ ParseErrorKind

@@ -3,3 +3,4 @@ pub mod Steps
 pub mod Singles
 pub mod Numbers
 pub mod Precisions
+pub mod Letters

@@ -17,29 +17,19 @@ use Rattle.std.specs.declared.option.Option.{Option}
 use Rattle.std.specs.declared.option.Option.the-variants.{Some, None}
 use Rattle.std.specs.declared.result.Result.{Result}
 use Rattle.std.specs.declared.result.Result.the-variants.{Ok, Err}
-use Rattle.text.specs.Chars.{first-char, run, any-char, text-end, is-text, text-check}
+use Rattle.text.specs.Chars.{first-char, run, all-pass, any-char, text-end, is-text, text-check}
 use Rattle.text.specs.Cuts.{Cut, Longest}
-use Rattle.text.proofs.Heads.{rest-is, char-there, there-char}
-use Rattle.text.proofs.Runs.{char-length, run-more, run-none, run-cut}
+use Rattle.text.proofs.Heads.{there-char}
+use Rattle.text.proofs.Runs.{char-length, run-more, run-none, run-chars, run-cut}
 
--- characters in front, and then something else
-run-chars : (cs rest : List ℕ) → scalars cs ≡ true → run any-char (encodes cs ++ rest) ≡ length (encodes cs) + run any-char rest
-run-chars [] rest h = omega arith
-run-chars (c ∷ cs) rest h =
-    let p = and-parts (scalar c) (scalars cs) h in
-    let s = encodes (c ∷ cs) ++ rest in
-    let e : s ≡ encode c ++ (encodes cs ++ rest) = append-assoc (encode c) (encodes cs) rest in
-    let m = run-more any-char s c (char-there s (encodes cs ++ rest) c (p .0) e) refl .1 in
-    let d : run any-char (drop (width c) s) ≡ run any-char (encodes cs ++ rest) = ap (run any-char) (rest-is s (encodes cs ++ rest) c e) in
-    let n = run-chars cs rest (p .1) in
-    let l = length-append (encode c) (encodes cs) in
-    let w = length-encode c in
-    omega arith
+all-any : (cs : List ℕ) → all-pass any-char cs ≡ true
+all-any [] = refl
+all-any (c ∷ cs) = all-any cs
 
 -- no longer beginning is text
 at-most : (s : List ℕ) (m : ℕ) → m ≤ length s → Utf8 (take m s) → m ≤ run any-char s
 at-most s m l u =
-    let r = run-chars (u .0) (drop m s) (u .1 .0) in
+    let r = run-chars any-char (u .0) (drop m s) (u .1 .0) (all-any (u .0)) in
     let e : encodes (u .0) ++ drop m s ≡ s = ap (λ x. x ++ drop m s) (u .1 .1) ∙ take-append-drop m s in
     let q : run any-char (encodes (u .0) ++ drop m s) ≡ run any-char s = ap (run any-char) e in
     let k : length (encodes (u .0)) ≡ m = ap length (u .1 .1) ∙ length-take-le m s l in
@@ -84,12 +74,14 @@ longest-one s n m a b =
     ⊎-elim (λ h. absurd (a .most m h (b .within) (b .front)))
     (λ h. ⊎-elim (λ k. absurd (b .most n k (a .within) (a .front))) (λ k. omega arith) (cases-lt m n)) (cases-lt n m)
 
+pub longest-all : (s : List ℕ) → Utf8 s → Longest s (length s)
+longest-all s u = record { within = omega arith; front = subst Utf8 (sym (take-all (length s) s (omega arith))) u; most = λ m h l _. omega arith }
+
 -- the check, by what the standard library's says
 pub check-yes : (s : List ℕ) → Utf8 s → Ok tt ≡ text-check s
 unfolding text-check
 check-yes s u =
-    let a : Longest s (length s) = record { within = omega arith; front = subst Utf8 (sym (take-all (length s) s (omega arith))) u; most = λ m h l _. omega arith } in
-    let e = longest-one s (text-end s) (length s) (longest-end s) a in
+    let e = longest-one s (text-end s) (length s) (longest-end s) (longest-all s u) in
     sym (cond-true (is-text s) (Ok tt) (Err (text-end s)) (eq-eqb (text-end s) (length s) e))
 
 pub check-no : (s : List ℕ) (n : ℕ) → Longest s n → n < length s → Err n ≡ text-check s

@@ -19,6 +19,7 @@ use Rattle.std.specs.declared.option.Option.{Option}
 use Rattle.std.specs.declared.option.Option.the-variants.{Some, None}
 use Rattle.std.specs.shelf.Text.{decodes}
 use Rattle.text.specs.Chars.{begins, in-front, first-char}
+use Rattle.text.specs.Cuts.{First}
 
 pub begins-self : (p rest : List ℕ) → begins p (p ++ rest) ≡ true
 begins-self [] rest = refl
@@ -81,3 +82,7 @@ no-front s (d ∷ ds) n =
 pub no-char : (s : List ℕ) → NoChar s → first-char s ≡ None
 unfolding first-char
 no-char s n = no-front s (decodes s) n
+
+pub first-is : (s : List ℕ) (r : Option ℕ) → r ≡ first-char s → First s r
+first-is s None e = λ c rest h q. let a : None ≡ Some c = e ∙ char-there s rest c h q in absurd (let z : _≡_ {A = ℕ} 0 1 = cc in omega arith)
+first-is s (Some c) e = there-char s c (sym e)

@@ -13,9 +13,9 @@ use Rattle.std.proofs.shelf.Text.{length-encode, utf8-past-char, width-bounds}
 use Rattle.std.specs.Text.{Utf8, width}
 use Rattle.std.specs.declared.option.Option.{Option}
 use Rattle.std.specs.declared.option.Option.the-variants.{Some, None}
-use Rattle.text.specs.Chars.{first-char, passing, one-more, run-from, run, any-char, text-end, is-text}
+use Rattle.text.specs.Chars.{first-char, passing, one-more, run-from, run, all-pass}
 use Rattle.text.specs.Cuts.{Cut, Longest}
-use Rattle.text.proofs.Heads.{there-char, char-there}
+use Rattle.text.proofs.Heads.{rest-is, there-char, char-there}
 use Rattle.text.proofs.Cutting.{cut-by-left, cut-none, cut-more}
 
 skips : (p : ℕ → Bool) (n : ℕ) (xs ys : List ℕ) → length xs ≡ n → run-from p n (xs ++ ys) ≡ n + run p ys
@@ -55,6 +55,21 @@ run-stop p s c e f = by-none p s (ap (passing p) e ∙ cond-false (p c) (width c
 
 pub run-none : (p : ℕ → Bool) (s : List ℕ) → first-char s ≡ None → run p s ≡ 0
 run-none p s e = by-none p s (ap (passing p) e)
+
+-- characters that pass, and then something else
+pub run-chars : (p : ℕ → Bool) (cs rest : List ℕ) → scalars cs ≡ true → all-pass p cs ≡ true → run p (encodes cs ++ rest) ≡ length (encodes cs) + run p rest
+run-chars p [] rest h b = omega arith
+run-chars p (c ∷ cs) rest h b =
+    let u = and-parts (scalar c) (scalars cs) h in
+    let v = and-parts (p c) (all-pass p cs) b in
+    let s = encodes (c ∷ cs) ++ rest in
+    let e : s ≡ encode c ++ (encodes cs ++ rest) = append-assoc (encode c) (encodes cs) rest in
+    let m = run-more p s c (char-there s (encodes cs ++ rest) c (u .0) e) (v .0) .1 in
+    let d : run p (drop (width c) s) ≡ run p (encodes cs ++ rest) = ap (run p) (rest-is s (encodes cs ++ rest) c e) in
+    let n = run-chars p cs rest (u .1) (v .1) in
+    let l = length-append (encode c) (encodes cs) in
+    let w = length-encode c in
+    omega arith
 
 -- one character is cut off whole
 pub cut-char : (s : List ℕ) (c : ℕ) → first-char s ≡ Some c → Cut s (width c)

@@ -47,6 +47,11 @@ run-from p (suc n) (b ∷ bs) = run-from p n bs + 1
 abbrev pub run : (ℕ → Bool) → List ℕ → ℕ
 run p s = run-from p 0 s
 
+-- all of some characters pass a test
+abbrev pub all-pass : (ℕ → Bool) → List ℕ → Bool
+all-pass p [] = true
+all-pass p (c ∷ cs) = p c && all-pass p cs
+
 -- Unicode's White_Space
 abbrev pub white-space : List ℕ
 white-space =

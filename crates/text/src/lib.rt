@@ -3,7 +3,7 @@ ghost use Prim.Native.Nat.{ℕ, _+_, _-_, _<_, _≤_};
 ghost use lib.ListN.{length, drop, take};
 ghost use mathlib.Core.Path.{_≡_};
 ghost use Rattle.text.specs.Chars.{first-char, blank, blanks-at, non-blanks-at, text-check};
-ghost use Rattle.text.specs.Cuts.{Cut, Longest, Checked};
+ghost use Rattle.text.specs.Cuts.{Cut, First, Longest, Checked};
 
 // At most four bytes from the front: no character has more.
 fn four(s: &[u8]) -> &[u8]
@@ -24,7 +24,8 @@ fn valid_len(bytes: &[u8]) -> usize
 
 // The character that bytes begin with, if they begin with one.
 pub fn first_char(s: &[u8]) -> Option<char>
-    ensures { λ r. ⌜ r ≡ first-char (now (s .entry)) ⌝ }
+    ensures value { λ r. ⌜ r ≡ first-char (now (s .entry)) ⌝ }
+    ensures meaning { λ r. ⌜ First (now (s .entry)) r ⌝ }
 {
     if let [b, ..] = s {
         if *b < 128 {

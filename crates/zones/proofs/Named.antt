@@ -9,14 +9,14 @@ use denote.Ref.{RefT}
 use lib.Dec.{eqb, leb}
 use lib.IntN.{ℤ, pos, negℤ}
 use lib.ListN.{length, take, drop, getD}
+use Rattle.scan.specs.Letters.{alike}
 use Rattle.scan.specs.Steps.{Cuts}
+use Rattle.scan.proofs.Words.{alike-by}
 use Rattle.scan.specs.declared.kind.ParseErrorKind.{ParseErrorKind}
 use Rattle.scan.specs.declared.kind.ParseErrorKind.the-variants.{Invalid}
 use Rattle.std.proofs.shelf.Lists.{at-drop-more, at-drop-all}
-use Rattle.std.proofs.shelf.Tests.{and-parts, and-from, or-cases, cond-both, cond-true, cond-false, eq-eqb, ne-eqb, eqb-true, leb-true, true≢false}
-use Rattle.std.proofs.shelf.Ways.{same-from-decides, decides-eqb, decides-and, decides-like, tells}
+use Rattle.std.proofs.shelf.Tests.{and-parts, or-cases, cond-both, cond-true, cond-false, eq-eqb, ne-eqb, leb-true}
 use Rattle.std.specs.Options.{Cases}
-use Rattle.std.specs.Orderings.{Decides, When}
 use Rattle.std.specs.Text.{lower, within, asciiLetter}
 use Rattle.std.specs.declared.option.Option.{Option}
 use Rattle.std.specs.declared.option.Option.the-variants.{Some, None}
@@ -24,34 +24,10 @@ use Rattle.std.specs.declared.result.Result.{Result}
 use Rattle.std.specs.declared.result.Result.the-variants.{Ok, Err}
 use Rattle.text.specs.Cuts.{Cut}
 use Rattle.text.proofs.Cutting.{cut-none, cut-cons}
-use Rattle.zones.specs.Mail.{alike, entries, listed, zone-table, military, or-else, behind, letters-at, named, offset-2822-at}
+use Rattle.zones.specs.Mail.{entries, listed, zone-table, military, or-else, behind, letters-at, named, offset-2822-at}
 use Rattle.zones.specs.Offsets.{offset-at}
 use Rattle.zones.specs.Separators.{nothing-at}
 use Rattle.zones.proofs.Offsets.{offset-cut}
-
--- ---- the same letters
-joins : (x y : ℕ) (xs ys : List ℕ) → (x ≡ y) × (xs ≡ ys) → x ∷ xs ≡ y ∷ ys
-joins x y xs ys p = let a = p .0 in let b = p .1 in cc
-
-parts : (x y : ℕ) (xs ys : List ℕ) → x ∷ xs ≡ y ∷ ys → (x ≡ y) × (xs ≡ ys)
-parts x y xs ys e = ((cc), (cc))
-
-decides : (a b : List ℕ) → Decides (alike a b) (map lower a ≡ map lower b)
-decides [] [] = (λ _. refl, λ _. refl)
-decides [] (b ∷ bs) = (λ e. absurd (true≢false (sym e)), λ e. absurd (let z : _≡_ {A = ℕ} 0 1 = cc in omega arith))
-decides (a ∷ as′) [] = (λ e. absurd (true≢false (sym e)), λ e. absurd (let z : _≡_ {A = ℕ} 0 1 = cc in omega arith))
-decides (a ∷ as′) (b ∷ bs) =
-    decides-like _ (joins (lower a) (lower b) _ _) (parts (lower a) (lower b) _ _) (decides-and _ _ (decides-eqb (lower a) (lower b)) (decides as′ bs))
-
-pub alike-yes : (a b : List ℕ) → map lower a ≡ map lower b → alike a b ≡ true
-alike-yes a b e = decides a b .1 e
-
-pub alike-no : (a b : List ℕ) → (map lower a ≡ map lower b → ⊥) → alike a b ≡ false
-alike-no a b e = by (alike a b) (decides a b .0)
-  where
-    by : (r : Bool) → (r ≡ true → map lower a ≡ map lower b) → r ≡ false
-    by true f = absurd (e (f refl))
-    by false f = refl
 
 -- ---- the table
 abbrev pub Row : Type 0
@@ -66,10 +42,10 @@ module _ (zs : List Row) (name : List ℕ) (i : ℕ) (d : Row) where
   row l = at-drop-more (by-rows name) zs i d l
 
   pub found : i < length zs → map lower name ≡ map lower (getD zs i d .0 .now) → by-rows name (drop i zs) ≡ Some (getD zs i d .1)
-  found l e = row l ∙ cond-true _ _ _ (alike-yes name (getD zs i d .0 .now) e)
+  found l e = row l ∙ cond-true _ _ _ (sym (alike-by name (getD zs i d .0 .now) true e))
 
   pub passed : i < length zs → (map lower name ≡ map lower (getD zs i d .0 .now) → ⊥) → by-rows name (drop i zs) ≡ by-rows name (drop (i + 1) zs)
-  passed l e = row l ∙ cond-false _ _ _ (alike-no name (getD zs i d .0 .now) e)
+  passed l e = row l ∙ cond-false _ _ _ (sym (alike-by name (getD zs i d .0 .now) false e))
 
 pub missed : (zs : List Row) (name : List ℕ) (i : ℕ) → length zs ≤ i → by-rows name (drop i zs) ≡ None
 unfolding listed

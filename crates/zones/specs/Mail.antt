@@ -1,12 +1,13 @@
 -- The zones of mail, by RFC 2822, sections 3.3 and 4.3: a number, or a name in ASCII letters, case ignored.
 use Prim.Native.Nat.{ℕ, _+_, _*_}
-use mathlib.Core.Bool.{Bool, true, false, cond, _&&_}
+use mathlib.Core.Bool.{false, cond}
 use mathlib.Core.List.{List, [], _∷_, map}
 use denote.Ref.{RefT}
 use lib.Chars.{codes}
 use lib.Dec.{eqb}
 use lib.IntN.{ℤ, pos, negℤ}
 use lib.ListN.{take}
+use Rattle.scan.specs.Letters.{alike}
 use Rattle.scan.specs.declared.kind.ParseErrorKind.{ParseErrorKind}
 use Rattle.scan.specs.declared.kind.ParseErrorKind.the-variants.{Invalid}
 use Rattle.std.specs.Text.{asciiLetter, lower}
@@ -22,13 +23,6 @@ abbrev pub zone-table : List (List ℕ × ℕ)
 zone-table =
     (codes "ut", 0) ∷ (codes "gmt", 0) ∷ (codes "edt", 4) ∷ (codes "est", 5) ∷ (codes "cdt", 5) ∷ (codes "cst", 6) ∷ (codes "mdt", 6)
     ∷ (codes "mst", 7) ∷ (codes "pdt", 7) ∷ (codes "pst", 8) ∷ []
-
--- the same letters, case ignored
-abbrev pub alike : List ℕ → List ℕ → Bool
-alike [] [] = true
-alike [] (b ∷ bs) = false
-alike (a ∷ as′) [] = false
-alike (a ∷ as′) (b ∷ bs) = eqb (lower a) (lower b) && alike as′ bs
 
 -- the hours of a name by a table
 unfoldable pub listed : List (List ℕ × ℕ) → List ℕ → Option ℕ

@@ -17,7 +17,7 @@ use Rattle.std.specs.declared.option.Option.{Option}
 use Rattle.std.specs.declared.option.Option.the-variants.{Some, None}
 use Rattle.text.specs.Chars.{first-char}
 use Rattle.text.specs.Cuts.{Longest}
-use Rattle.text.proofs.Heads.{rest-is, char-there, no-char}
+use Rattle.text.proofs.Heads.{char-there, no-char, first-is}
 use Rattle.text.proofs.first_char.Needs as need
 
 -- an ASCII byte is a character
@@ -53,11 +53,14 @@ go s f ts rest n (Some c) e l t u h =
     sym (char-there s _ c (first-scalar ts rest c u h) (onward s (rest ++ drop n f) 4 c (sym e ∙ a)))
 
 pub returns-then-b-lt128 : need.returns-then-b-lt128
-returns-then-b-lt128 c = ascii (c .args .s .now) (omega (arith, ltb-false)) (c .if-b-lt128 .taken)
+returns-then-b-lt128 c =
+    let v = ascii (c .args .s .now) (omega (arith, ltb-false)) (c .if-b-lt128 .taken) in
+    record { value = v; meaning = first-is (c .args .s .now) _ v }
 
 pub returns : need.returns
 returns c =
     let e = c .in-Ok .ensures tt .cases in
     let t : c .in-Ok .text .now ≡ take (c .valid-len-n .result) (c .four-front .result .now) = search needs in
-    go (c .args .s .now) (c .four-front .result .now) (c .in-Ok .text .now) (chars-rest (c .next .last .self)) (c .valid-len-n .result) (c .next .result)
-    (c .four-front .ensures) (c .valid-len-n .ensures) t (subst Utf8 (sym (e .0)) (e .1)) (search needs)
+    let v = go (c .args .s .now) (c .four-front .result .now) (c .in-Ok .text .now) (chars-rest (c .next .last .self)) (c .valid-len-n .result) (c .next .result)
+            (c .four-front .ensures) (c .valid-len-n .ensures) t (subst Utf8 (sym (e .0)) (e .1)) (search needs) in
+    record { value = v; meaning = first-is (c .args .s .now) _ v }

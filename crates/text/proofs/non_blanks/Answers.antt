@@ -17,12 +17,12 @@ loop-b-again c = passed (c .in-Some .c) white-space (c .loop-b .b-index) (c .loo
 
 pub add-n : need.add-n
 add-n c =
-    let r = going-room not-blank (c .args .s .now) (c .chars .n) (c .chars .inv) (c .in-Some .c) (c .in-Some .ensures tt) in
+    let r = going-room not-blank (c .args .s .now) (c .chars .n) (c .chars .inv) (c .in-Some .c) (c .in-Some .ensures tt .value) in
     search needs
 
 pub chars-less : need.chars-less
 chars-less c =
-    let r = going-room not-blank (c .args .s .now) (c .chars .n) (c .chars .inv) (c .in-Some .c) (c .in-Some .ensures tt) in
+    let r = going-room not-blank (c .args .s .now) (c .chars .n) (c .chars .inv) (c .in-Some .c) (c .in-Some .ensures tt .value) in
     let w = c .len-utf8-n .ensures .value in
     omega arith
 
@@ -32,7 +32,7 @@ chars-again c =
     let b : not-blank (c .in-Some .c) ≡ true
     = ap not (sym (c .loop-b .inv) ∙ missed (c .in-Some .c) white-space (c .loop-b .b-index) (c .loop-b-test .left)) in
     going-more not-blank (c .args .s .now) (c .chars .n) (c .chars .inv) (c .in-Some .c) (c .chars .n) (c .len-utf8-n .result)
-    (c .in-Some .ensures tt) b refl (c .len-utf8-n .ensures .value)
+    (c .in-Some .ensures tt .value) b refl (c .len-utf8-n .ensures .value)
 
 pub returns-then-c-b : need.returns-then-c-b
 unfolding blank non-blanks-at
@@ -40,11 +40,11 @@ returns-then-c-b c =
     let b : not-blank (c .in-Some .c) ≡ false
     = ap not (sym (c .loop-b .inv) ∙ found (c .in-Some .c) white-space (c .loop-b .b-index) (c .loop-b-test .taken) (c .if-c-b .taken)) in
     record {
-      value = going-stop not-blank (c .args .s .now) (c .chars .n) (c .chars .inv) (c .in-Some .c) (c .in-Some .ensures tt) b;
+      value = going-stop not-blank (c .args .s .now) (c .chars .n) (c .chars .inv) (c .in-Some .c) (c .in-Some .ensures tt .value) b;
       cut = c .chars .inv .cut;
     }
 
 pub returns-in-rest : need.returns-in-rest
 unfolding non-blanks-at
 returns-in-rest c =
-    record { value = going-none not-blank (c .args .s .now) (c .chars .n) (c .chars .inv) (c .in-rest .ensures tt); cut = c .chars .inv .cut }
+    record { value = going-none not-blank (c .args .s .now) (c .chars .n) (c .chars .inv) (c .in-rest .ensures tt .value); cut = c .chars .inv .cut }
