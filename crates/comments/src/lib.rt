@@ -45,6 +45,3 @@ pub fn comment_2822(s: &[u8]) -> Result<usize, ParseErrorKind>
     let n = text::blanks(s);
     Ok(n + closes(&s[n..])?)
 }
-
-#[cfg(test)]
-mod tests;

@@ -103,7 +103,14 @@ fn parse(line: &str) -> Option<Case<'_>> {
     let b = b.parse::<u64>().ok()?;
     let c = c.parse::<u64>().ok()?;
     let d = d.parse::<u64>().ok()?;
-    Some(Case { leaf, a, b, c, d, hex })
+    Some(Case {
+        leaf,
+        a,
+        b,
+        c,
+        d,
+        hex,
+    })
 }
 
 pub(crate) fn run(heap: Global, line: &str) -> Result<Answer, AllocError> {

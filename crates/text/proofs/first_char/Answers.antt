@@ -62,5 +62,5 @@ returns c =
     let e = c .in-Ok .ensures tt .cases in
     let t : c .in-Ok .text .now ≡ take (c .valid-len-n .result) (c .four-front .result .now) = search needs in
     let v = go (c .args .s .now) (c .four-front .result .now) (c .in-Ok .text .now) (chars-rest (c .next .last .self)) (c .valid-len-n .result) (c .next .result)
-            (c .four-front .ensures) (c .valid-len-n .ensures) t (subst Utf8 (sym (e .0)) (e .1)) (search needs) in
+    (c .four-front .ensures) (c .valid-len-n .ensures) t (subst Utf8 (sym (e .0)) (e .1)) (search needs) in
     record { value = v; meaning = first-is (c .args .s .now) _ v }

@@ -1,5 +1,5 @@
 // Examples.
-use super::comment_2822;
+use comments::comment_2822;
 use scan::kind::ParseErrorKind;
 use scan::kind::ParseErrorKindDebug;
 use scan::kind::ParseErrorKindPartialEq;

@@ -1,9 +1,9 @@
 // Examples: each name in its forms, and the week's arithmetic.
-use super::names::*;
-use super::weekday::Weekday;
-use super::weekday::WeekdayDebug;
-use super::weekday::WeekdayPartialEq;
-use super::weekday::WeekdayTryFrom;
+use names::names::*;
+use names::weekday::Weekday;
+use names::weekday::WeekdayDebug;
+use names::weekday::WeekdayPartialEq;
+use names::weekday::WeekdayTryFrom;
 use scan::kind::ParseErrorKind;
 use scan::kind::ParseErrorKindDebug;
 use scan::kind::ParseErrorKindPartialEq;
