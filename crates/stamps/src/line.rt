@@ -37,7 +37,13 @@ pub(crate) impl fmt::Display for Refusal as RefusalDisplay {
         let kind = self.kind;
         let number = kind.number();
         let place = self.place;
-        write!(f, "refused {kind:?} ({number}) at {place}: {kind}")
+        match kind {
+            ParseErrorKind::BadFormat => write!(
+                f,
+                "refused {kind:?} ({number}) at {place}: the first word names no field, --help lists them",
+            ),
+            _ => write!(f, "refused {kind:?} ({number}) at {place}: {kind}"),
+        }
     }
 }
 
