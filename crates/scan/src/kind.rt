@@ -1,6 +1,7 @@
 // Why a reading is refused.
 ghost use mathlib.Core.Path.{_≡_};
-ghost use Rattle.scan.specs.Kinds.{kind-number};
+ghost use Rattle.scan.specs.Kinds.{kind-number, kind-text};
+ghost use Rattle.std.specs.declared.option.Option.the-variants.{Some};
 use std::fmt;
 
 #[derive(Clone, Copy, PartialEq, Eq, Debug)]
@@ -31,6 +32,8 @@ impl ParseErrorKind {
 }
 
 pub impl fmt::Display for ParseErrorKind as ParseErrorKindDisplay {
+    ghost shown = { λ k. Some (kind-text k) };
+
     fn fmt<W: fmt::Write>(&self, f: &mut fmt::Formatter<W>) -> fmt::Result {
         f.write_str(
             match *self {
