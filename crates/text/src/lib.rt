@@ -92,16 +92,16 @@ pub fn non_blanks(s: &[u8]) -> usize
     ensures value { λ r. ⌜ r ≡ non-blanks-at (now (s .entry)) ⌝ }
     ensures cut { λ r. ⌜ Cut (now (s .entry)) r ⌝ }
 {
-    let mut n: usize = 0;
-    'chars: while let Some(c) = first_char(&s[n..]) {
+    let mut end: usize = 0;
+    'chars: while let Some(c) = first_char(&s[end..]) {
         for b in WHITE_SPACE {
             if c == b {
                 break 'chars;
             }
         }
-        n += c.len_utf8();
+        end += c.len_utf8();
     }
-    n
+    end
 }
 
 // Has the character White_Space?

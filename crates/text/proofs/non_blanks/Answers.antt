@@ -15,15 +15,15 @@ chars-holds c = going-start not-blank (c .args .s .now)
 pub loop-b-again : need.loop-b-again
 loop-b-again c = passed (c .in-Some .c) white-space (c .loop-b .b-index) (c .loop-b-test .taken) (c .if-c-b .left) ∙ c .loop-b .inv
 
-pub add-n : need.add-n
-add-n c =
-    let r = going-room not-blank (c .args .s .now) (c .chars .n) (c .chars .inv) (c .in-Some .c) (c .in-Some .ensures tt .value) in
+pub add-end : need.add-end
+add-end c =
+    let r = going-room not-blank (c .args .s .now) (c .chars .end) (c .chars .inv) (c .in-Some .c) (c .in-Some .ensures tt .value) in
     search needs
 
 pub chars-less : need.chars-less
 chars-less c =
-    let r = going-room not-blank (c .args .s .now) (c .chars .n) (c .chars .inv) (c .in-Some .c) (c .in-Some .ensures tt .value) in
-    let w = c .len-utf8-n .ensures .value in
+    let r = going-room not-blank (c .args .s .now) (c .chars .end) (c .chars .inv) (c .in-Some .c) (c .in-Some .ensures tt .value) in
+    let w = c .len-utf8-end .ensures .value in
     omega arith
 
 pub chars-again : need.chars-again
@@ -31,8 +31,8 @@ unfolding blank
 chars-again c =
     let b : not-blank (c .in-Some .c) ≡ true
     = ap not (sym (c .loop-b .inv) ∙ missed (c .in-Some .c) white-space (c .loop-b .b-index) (c .loop-b-test .left)) in
-    going-more not-blank (c .args .s .now) (c .chars .n) (c .chars .inv) (c .in-Some .c) (c .chars .n) (c .len-utf8-n .result)
-    (c .in-Some .ensures tt .value) b refl (c .len-utf8-n .ensures .value)
+    going-more not-blank (c .args .s .now) (c .chars .end) (c .chars .inv) (c .in-Some .c) (c .chars .end) (c .len-utf8-end .result)
+    (c .in-Some .ensures tt .value) b refl (c .len-utf8-end .ensures .value)
 
 pub returns-then-c-b : need.returns-then-c-b
 unfolding blank non-blanks-at
@@ -40,11 +40,11 @@ returns-then-c-b c =
     let b : not-blank (c .in-Some .c) ≡ false
     = ap not (sym (c .loop-b .inv) ∙ found (c .in-Some .c) white-space (c .loop-b .b-index) (c .loop-b-test .taken) (c .if-c-b .taken)) in
     record {
-      value = going-stop not-blank (c .args .s .now) (c .chars .n) (c .chars .inv) (c .in-Some .c) (c .in-Some .ensures tt .value) b;
+      value = going-stop not-blank (c .args .s .now) (c .chars .end) (c .chars .inv) (c .in-Some .c) (c .in-Some .ensures tt .value) b;
       cut = c .chars .inv .cut;
     }
 
 pub returns-in-rest : need.returns-in-rest
 unfolding non-blanks-at
 returns-in-rest c =
-    record { value = going-none not-blank (c .args .s .now) (c .chars .n) (c .chars .inv) (c .in-rest .ensures tt .value); cut = c .chars .inv .cut }
+    record { value = going-none not-blank (c .args .s .now) (c .chars .end) (c .chars .inv) (c .in-rest .ensures tt .value); cut = c .chars .inv .cut }

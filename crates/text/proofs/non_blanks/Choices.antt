@@ -10,7 +10,7 @@ abbrev pub Inv-loop-b : given.InvT-loop-b
 Inv-loop-b l = among (l .c) (drop (l .b-index) (l .b-items)) ≡ among (l .c) (l .b-items)
 
 abbrev pub Inv-chars : given.InvT-chars
-Inv-chars l = Going not-blank (l .s) (l .n)
+Inv-chars l = Going not-blank (l .s) (l .end)
 
 abbrev pub μ-chars : given.MeasureT-chars
-μ-chars l = length (l .s) - l .n
+μ-chars l = length (l .s) - l .end
