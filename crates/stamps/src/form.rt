@@ -1,5 +1,7 @@
 // The fields that a line may hold.
+ghost use mathlib.Core.Path.{_≡_};
 ghost use Rattle.scan.specs.Steps.{Cuts};
+ghost use Rattle.stamps.specs.Fields.{read-at};
 use names::names::short_or_long_month0;
 use names::names::short_or_long_weekday;
 use names::weekday::Weekday;
@@ -68,6 +70,7 @@ pub(crate) impl fmt::Display for Value as ValueDisplay {
 
 // The field in front of a text, and how many bytes it takes.
 pub(crate) fn read(form: Form, s: &[u8]) -> Result<(Value, usize), ParseErrorKind>
+    ensures value { λ r. ⌜ r ≡ read-at form (now (s .entry)) ⌝ }
     ensures cut { λ r. ⌜ Cuts (now (s .entry)) r ⌝ }
 {
     match form {
