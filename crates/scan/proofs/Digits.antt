@@ -1,6 +1,6 @@
 -- Digits: one more, the end, how large a number is, and where it cuts.
-use Prim.Native.Nat.{ℕ, zero, suc, _+_, _-_, _*_, _^_, _≤_, _<_}
-use mathlib.Core.Bool.{Bool, true, false, cond, _&&_}
+use Prim.Native.Nat.{ℕ, _+_, _-_, _*_, _^_, _≤_, _<_}
+use mathlib.Core.Bool.{true, false, cond}
 use mathlib.Core.List.{List, [], _∷_}
 use mathlib.Core.Logic.{⊎-elim}
 use mathlib.Core.Path.{_≡_, refl, sym, ap, _∙_, subst}
@@ -21,7 +21,7 @@ use Rattle.std.specs.declared.result.Result.{Result}
 use Rattle.std.specs.declared.result.Result.the-variants.{Ok, Err}
 use Rattle.scan.specs.declared.kind.ParseErrorKind.{ParseErrorKind}
 use Rattle.scan.specs.declared.kind.ParseErrorKind.the-variants.{OutOfRange, Invalid, TooShort}
-use Rattle.scan.specs.Numbers.{largest, numeral-from, numeral-at, as-integer, number-at, Written, digits-at}
+use Rattle.scan.specs.Numbers.{largest, numeral-from, numeral-at, as-integer, number-at, Written}
 use Rattle.scan.specs.Steps.{Cuts}
 use Rattle.text.specs.Cuts.{Cut}
 use Rattle.text.proofs.Cutting.{cut-none, cut-cons}

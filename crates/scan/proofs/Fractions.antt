@@ -1,6 +1,6 @@
 -- Fractions of a second: the table of scales, what is read, and where it cuts.
 use Prim.Native.Nat.{ℕ, zero, suc, _+_, _-_, _*_, _^_, _≤_, _<_}
-use mathlib.Core.Bool.{Bool, true, false, cond, _&&_}
+use mathlib.Core.Bool.{Bool, true, _&&_}
 use mathlib.Core.List.{List, [], _∷_}
 use mathlib.Core.Logic.{⊎-elim}
 use mathlib.Core.Path.{_≡_, refl, sym, ap, _∙_, subst}
@@ -8,16 +8,13 @@ use native.Mathlib.Nat.{mul-lt-mul-of-pos-right, pow-suc}
 use native.Mathlib.Omega.{arith}
 use lib.Dec.{eqb}
 use lib.IntN.{ℤ, pos, natAbs}
-use lib.ListN.{length, drop, getD}
+use lib.ListN.{drop, getD}
 use lib.Pow.{pow-add}
 use Rattle.std.proofs.shelf.Tests.{and-parts, cases-lt, cond-both, eqb-true}
 use Rattle.std.specs.Text.{asciiDigit}
-use Rattle.std.specs.Vec.{made}
-use Rattle.std.specs.declared.result.Result.{Result}
 use Rattle.std.specs.declared.result.Result.the-variants.{Ok, Err}
 use Rattle.scan.specs.declared.kind.ParseErrorKind.{ParseErrorKind}
 use Rattle.scan.specs.Numbers.{numeral-at, number-at, as-integer, Written, digits-at, fraction-at, nanosecond-at, nanosecond-fixed-at, mail-year, year-2822-at, unlimited}
-use Rattle.scan.specs.Steps.{Cuts}
 use Rattle.text.specs.Cuts.{Cut}
 use Rattle.text.proofs.Cutting.{cut-none, cut-cons, cut-more}
 use Rattle.scan.proofs.Digits.{as-ok, as-err, digit-is}

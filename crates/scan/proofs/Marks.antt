@@ -1,14 +1,11 @@
 -- One given byte, and blanks, take whole characters.
 use Prim.Native.Nat.{ℕ, _<_}
-use mathlib.Core.Bool.{Bool, true, false, cond}
 use mathlib.Core.List.{List, [], _∷_}
-use mathlib.Core.Logic.{⊎-elim}
-use mathlib.Core.Path.{_≡_, refl, sym, subst}
 use native.Mathlib.Omega.{arith}
 use lib.Dec.{eqb}
 use Rattle.std.proofs.shelf.Tests.{cond-both, eqb-true}
 use Rattle.std.specs.declared.result.Result.the-variants.{Ok, Err}
-use Rattle.scan.specs.declared.kind.ParseErrorKind.the-variants.{Invalid, TooShort}
+use Rattle.scan.specs.declared.kind.ParseErrorKind.the-variants.{Invalid}
 use Rattle.scan.specs.Singles.{char-at, space-at}
 use Rattle.scan.specs.Steps.{Cuts-mark}
 use Rattle.text.specs.Chars.{blank, blanks-at}

@@ -1,5 +1,5 @@
 // Digits in front: a number, a fraction of a second, a year of mail.
-ghost use Prim.Native.Nat.{ℕ, _≤_, _<_};
+ghost use Prim.Native.Nat.{_≤_, _<_};
 ghost use mathlib.Core.Path.{_≡_};
 ghost use Rattle.std.specs.Vec.{made};
 ghost use Rattle.scan.specs.Numbers.{number-at, Written, digits-at, fraction-at, nanosecond-at, nanosecond-fixed-at, mail-year, year-2822-at};

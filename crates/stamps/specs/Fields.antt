@@ -3,7 +3,7 @@ use Prim.Native.Nat.{ℕ}
 use mathlib.Core.Bool.{true}
 use mathlib.Core.List.{List}
 use Rattle.std.specs.declared.result.Result.{Result}
-use Rattle.std.specs.declared.result.Result.the-variants.{Ok, Err}
+use Rattle.std.specs.declared.result.Result.the-variants.{Ok}
 use Rattle.comments.specs.Comments.{comment-at}
 use Rattle.names.specs.Names.{short-or-long-month0-at, short-or-long-weekday-at}
 use Rattle.scan.specs.Numbers.{nanosecond-at, year-2822-at}

@@ -1,24 +1,22 @@
 -- The longest beginning that is text is the run of all characters in front.
-use Prim.Native.Nat.{ℕ, zero, suc, _+_, _-_, _≤_, _<_}
-use mathlib.Core.Bool.{Bool, true, false, cond}
+use Prim.Native.Nat.{ℕ, zero, suc, _+_, _≤_, _<_}
+use mathlib.Core.Bool.{true}
 use mathlib.Core.List.{List, [], _∷_, _++_}
 use mathlib.Core.Logic.{⊎-elim}
 use mathlib.Core.Path.{_≡_, refl, sym, ap, _∙_, subst}
 use native.Mathlib.Omega.{arith}
-use lib.Dec.{eqb}
-use lib.ListN.{length, take, drop, length-append, length-drop}
-use lib.Utf8.{encode, encodes, scalar, scalars}
-use Rattle.std.proofs.shelf.Lists.{append-assoc, take-append-drop, take-all, drop-drop, length-take-le, take-at}
-use Rattle.std.proofs.shelf.Tests.{and-parts, cases-lt, cond-true, cond-false, eq-eqb, ne-eqb}
+use lib.ListN.{length, take, drop, length-append}
+use lib.Utf8.{encode, encodes}
+use Rattle.std.proofs.shelf.Lists.{append-assoc, take-append-drop, take-all, length-take-le, take-at}
+use Rattle.std.proofs.shelf.Tests.{cases-lt, cond-true, cond-false, eq-eqb, ne-eqb}
 use Rattle.std.proofs.shelf.Text.{length-encode, width-bounds, utf8-nil, utf8-append, utf8-encode}
 use Rattle.std.specs.Reads.{ValidUpTo}
 use Rattle.std.specs.Text.{Utf8, width}
 use Rattle.std.specs.declared.option.Option.{Option}
 use Rattle.std.specs.declared.option.Option.the-variants.{Some, None}
-use Rattle.std.specs.declared.result.Result.{Result}
 use Rattle.std.specs.declared.result.Result.the-variants.{Ok, Err}
 use Rattle.text.specs.Chars.{first-char, run, all-pass, any-char, text-end, is-text, text-check}
-use Rattle.text.specs.Cuts.{Cut, Longest}
+use Rattle.text.specs.Cuts.{Longest}
 use Rattle.text.proofs.Heads.{there-char}
 use Rattle.text.proofs.Runs.{char-length, run-more, run-none, run-chars, run-cut}
 

@@ -1,20 +1,20 @@
 -- The character in front, by its definition and by its encoding.
-use Prim.Native.Nat.{ℕ, _+_, _≤_, _<_}
-use mathlib.Core.Bool.{Bool, true, false, cond, _&&_}
+use Prim.Native.Nat.{ℕ}
+use mathlib.Core.Bool.{true, _&&_}
 use mathlib.Core.List.{List, [], _∷_, _++_}
 use mathlib.Core.Logic.{⊎-elim}
 use mathlib.Core.Path.{_≡_, refl, sym, ap, _∙_, subst}
 use native.Mathlib.Omega.{arith}
 use lib.Dec.{eqb}
-use lib.ListN.{length, take, drop, length-append}
-use lib.Utf8.{encode, encodes, scalar, scalars}
+use lib.ListN.{drop}
+use lib.Utf8.{encode, scalar}
 use Rattle.std.proofs.shelf.Lists.{append-nil}
 use Rattle.std.proofs.shelf.Fronts.{front-rest}
 use Rattle.std.proofs.shelf.Tests.{and-parts, and-from, cases-bool, cond-true, cond-false, eqb-true, true≢false}
 use Rattle.std.proofs.shelf.Text.{decodes-append, decodes-encodes, utf8-encode, length-encode}
 use Rattle.std.proofs.shelf.Ways.{tells}
 use Rattle.std.specs.Reads.{NoChar}
-use Rattle.std.specs.Text.{Utf8, width}
+use Rattle.std.specs.Text.{width}
 use Rattle.std.specs.declared.option.Option.{Option}
 use Rattle.std.specs.declared.option.Option.the-variants.{Some, None}
 use Rattle.std.specs.shelf.Text.{decodes}

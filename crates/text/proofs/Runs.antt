@@ -1,20 +1,20 @@
 -- Runs of characters that pass a test: one more, the end, and where they cut.
-use Prim.Native.Nat.{ℕ, zero, suc, _+_, _-_, _≤_, _<_}
-use mathlib.Core.Bool.{Bool, true, false, cond, _||_}
+use Prim.Native.Nat.{ℕ, zero, suc, _+_, _-_, _≤_}
+use mathlib.Core.Bool.{Bool, true, false}
 use mathlib.Core.List.{List, [], _∷_, _++_}
 use mathlib.Core.Logic.{⊎-elim}
 use mathlib.Core.Path.{_≡_, refl, sym, ap, _∙_, subst}
 use native.Mathlib.Omega.{arith}
-use lib.ListN.{length, take, drop, getD, length-append, length-drop}
+use lib.ListN.{length, take, drop, length-append, length-drop}
 use lib.Utf8.{encode, encodes, scalar, scalars}
 use Rattle.std.proofs.shelf.Lists.{take-append-drop, length-take-le, append-assoc, take-rest, drop-drop}
 use Rattle.std.proofs.shelf.Tests.{and-parts, cases-bool, cond-true, cond-false}
 use Rattle.std.proofs.shelf.Text.{length-encode, utf8-past-char, width-bounds}
-use Rattle.std.specs.Text.{Utf8, width}
+use Rattle.std.specs.Text.{width}
 use Rattle.std.specs.declared.option.Option.{Option}
 use Rattle.std.specs.declared.option.Option.the-variants.{Some, None}
 use Rattle.text.specs.Chars.{first-char, passing, one-more, run-from, run, all-pass}
-use Rattle.text.specs.Cuts.{Cut, Longest}
+use Rattle.text.specs.Cuts.{Cut}
 use Rattle.text.proofs.Heads.{rest-is, there-char, char-there}
 use Rattle.text.proofs.Cutting.{cut-by-left, cut-none, cut-more}
 

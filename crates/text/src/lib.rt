@@ -1,6 +1,6 @@
 // Text: which bytes are UTF-8, the character that stands in front, and blanks.
-ghost use Prim.Native.Nat.{ℕ, _+_, _-_, _<_, _≤_};
-ghost use lib.ListN.{length, drop, take};
+ghost use Prim.Native.Nat.{_<_};
+ghost use lib.ListN.{take};
 ghost use mathlib.Core.Path.{_≡_};
 ghost use Rattle.text.specs.Chars.{first-char, blank, blanks-at, non-blanks-at, text-check};
 ghost use Rattle.text.specs.Cuts.{Cut, First, Longest, Checked};

@@ -1,27 +1,22 @@
 -- Zones of mail: the search of the table, names, and letters.
-use Prim.Native.Nat.{ℕ, _+_, _*_, _≤_, _<_}
-use mathlib.Core.Bool.{Bool, true, false, cond, _&&_, _||_}
+use Prim.Native.Nat.{ℕ, _+_, _≤_, _<_}
+use mathlib.Core.Bool.{true, false, cond}
 use mathlib.Core.List.{List, [], _∷_, map}
 use mathlib.Core.Logic.{⊎-elim}
 use mathlib.Core.Path.{_≡_, refl, sym, ap, _∙_, subst}
 use native.Mathlib.Omega.{arith}
 use denote.Ref.{RefT}
 use lib.Dec.{eqb, leb}
-use lib.IntN.{ℤ, pos, negℤ}
 use lib.ListN.{length, take, drop, getD}
 use Rattle.scan.specs.Letters.{alike}
 use Rattle.scan.specs.Steps.{Cuts}
 use Rattle.scan.proofs.Words.{alike-by}
-use Rattle.scan.specs.declared.kind.ParseErrorKind.{ParseErrorKind}
-use Rattle.scan.specs.declared.kind.ParseErrorKind.the-variants.{Invalid}
 use Rattle.std.proofs.shelf.Lists.{at-drop-more, at-drop-all}
 use Rattle.std.proofs.shelf.Tests.{and-parts, or-cases, cond-both, cond-true, cond-false, eq-eqb, ne-eqb, leb-true}
 use Rattle.std.specs.Options.{Cases}
 use Rattle.std.specs.Text.{lower, within, asciiLetter}
 use Rattle.std.specs.declared.option.Option.{Option}
 use Rattle.std.specs.declared.option.Option.the-variants.{Some, None}
-use Rattle.std.specs.declared.result.Result.{Result}
-use Rattle.std.specs.declared.result.Result.the-variants.{Ok, Err}
 use Rattle.text.specs.Cuts.{Cut}
 use Rattle.text.proofs.Cutting.{cut-none, cut-cons}
 use Rattle.zones.specs.Mail.{entries, listed, zone-table, military, or-else, behind, letters-at, named, offset-2822-at}

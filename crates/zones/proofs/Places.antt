@@ -1,15 +1,14 @@
 -- The parts of an offset, by places in the text.
 use Prim.Native.Nat.{ℕ, _≤_, _<_}
-use mathlib.Core.Bool.{Bool, true, false, cond, _&&_, _||_}
+use mathlib.Core.Bool.{Bool, true, false, cond, _&&_}
 use mathlib.Core.List.{List, [], _∷_}
 use mathlib.Core.Path.{_≡_, refl, sym, ap, _∙_}
 use native.Mathlib.Omega.{arith}
-use lib.Dec.{eqb, leb}
-use lib.ListN.{length, getD, drop}
+use lib.Dec.{eqb}
+use lib.ListN.{length, getD}
 use Rattle.scan.specs.declared.kind.ParseErrorKind.{ParseErrorKind}
 use Rattle.scan.specs.declared.kind.ParseErrorKind.the-variants.{OutOfRange, Invalid, TooShort}
 use Rattle.std.proofs.shelf.Tests.{cond-true, cond-false, eqb-true}
-use Rattle.std.proofs.shelf.Ways.{tells}
 use Rattle.std.specs.Text.{within, asciiDigit, width}
 use Rattle.std.specs.declared.option.Option.{Option}
 use Rattle.std.specs.declared.option.Option.the-variants.{Some, None}

@@ -1,5 +1,5 @@
 // The zones of mail: a number, or a name.
-ghost use Prim.Native.Nat.{_≤_, _<_};
+ghost use Prim.Native.Nat.{_≤_};
 ghost use lib.ListN.{length};
 ghost use mathlib.Core.Path.{_≡_};
 ghost use Rattle.scan.specs.Steps.{Cuts};

@@ -2,7 +2,6 @@
 ghost use Prim.Native.Nat.{ℕ};
 ghost use mathlib.Core.List.{List};
 ghost use mathlib.Core.Path.{_≡_};
-ghost use Rattle.scan.specs.Singles.{char-at};
 ghost use Rattle.scan.specs.Steps.{Cuts-mark};
 ghost use Rattle.scan.specs.declared.kind.ParseErrorKind.{ParseErrorKind as Kind};
 ghost use Rattle.std.specs.declared.result.Result.the-variants.{Ok};

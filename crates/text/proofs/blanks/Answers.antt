@@ -1,9 +1,8 @@
-use Prim.Native.Nat.{_+_, _≤_}
 use mathlib.Core.Bool.{true, false}
 use mathlib.Core.Path.{_≡_, sym, _∙_, subst}
 use native.Mathlib.Omega.{arith}
 use borrow.Author.Needs.{needs}
-use Rattle.text.specs.Chars.{among, blank, blanks-at, white-space}
+use Rattle.text.specs.Chars.{blank, blanks-at, white-space}
 use Rattle.text.specs.Cuts.{Cut}
 use Rattle.text.proofs.Runs.{going-start, going-more, going-stop, going-none, going-room}
 use Rattle.text.proofs.Tables.{passed, found, missed}

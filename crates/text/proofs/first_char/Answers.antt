@@ -5,7 +5,7 @@ use mathlib.Core.Path.{_≡_, refl, sym, ap, _∙_, subst}
 use native.Mathlib.Omega.{arith}
 use borrow.Author.Needs.{needs}
 use lib.ListN.{length, take, drop, getD, length-append, length-take}
-use lib.Utf8.{encode, encodes, scalar, scalars, low-scalar}
+use lib.Utf8.{encode, scalar, scalars, low-scalar}
 use Rattle.std.proofs.shelf.Lists.{take-append-drop, append-assoc, take-take, take-at, length-take-le}
 use Rattle.std.proofs.shelf.Tests.{and-parts, ltb-false}
 use Rattle.std.proofs.shelf.Text.{cons-from-encodes, length-encode, utf8-encode, width-bounds, encode-ascii}

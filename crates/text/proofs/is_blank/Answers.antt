@@ -1,6 +1,5 @@
-use mathlib.Core.Bool.{true, false}
-use mathlib.Core.Path.{_≡_, sym, _∙_}
-use Rattle.text.specs.Chars.{among, blank, white-space}
+use mathlib.Core.Path.{sym, _∙_}
+use Rattle.text.specs.Chars.{blank, white-space}
 use Rattle.text.proofs.Tables.{passed, found, missed}
 use Rattle.text.proofs.is_blank.Needs as need
 

@@ -1,10 +1,9 @@
-use Prim.Native.Nat.{_+_, _≤_}
 use mathlib.Core.Bool.{true, false}
 use mathlib.Core.Path.{_≡_, refl, sym, _∙_, ap}
 use native.Mathlib.Omega.{arith}
 use borrow.Author.Needs.{needs}
 use mathlib.Core.Bool.{not}
-use Rattle.text.specs.Chars.{among, blank, not-blank, non-blanks-at, white-space}
+use Rattle.text.specs.Chars.{blank, not-blank, non-blanks-at, white-space}
 use Rattle.text.proofs.Runs.{going-start, going-more, going-stop, going-none, going-room}
 use Rattle.text.proofs.Tables.{passed, found, missed}
 use Rattle.text.proofs.non_blanks.Needs as need

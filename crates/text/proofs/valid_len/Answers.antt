@@ -1,5 +1,4 @@
-use Prim.Native.Nat.{ℕ}
-use mathlib.Core.Path.{_≡_, sym, ap, subst}
+use mathlib.Core.Path.{sym, ap, subst}
 use lib.ListN.{length}
 use Rattle.text.specs.Cuts.{Longest}
 use Rattle.text.proofs.Ends.{longest-all, from-std}

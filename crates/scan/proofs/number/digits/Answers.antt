@@ -1,12 +1,9 @@
-use Prim.Native.Nat.{ℕ, _+_}
-use mathlib.Core.Bool.{cond}
-use mathlib.Core.Path.{_≡_, sym}
+use Prim.Native.Nat.{_+_}
+use mathlib.Core.Path.{_≡_}
 use native.Mathlib.Omega.{arith}
 use borrow.Author.Needs.{needs}
-use lib.ListN.{length, drop, getD}
+use lib.ListN.{drop}
 use Rattle.std.proofs.shelf.Lists.{at-drop-more, at-drop-all}
-use Rattle.std.proofs.shelf.Ways.{tells}
-use Rattle.std.specs.Text.{asciiDigit}
 use Rattle.scan.specs.Numbers.{digits-at}
 use Rattle.scan.proofs.number.digits.Needs as need
 

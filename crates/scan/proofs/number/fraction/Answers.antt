@@ -1,10 +1,6 @@
-use mathlib.Core.Path.{_≡_, refl, sym, ap, _∙_}
-use native.Mathlib.Omega.{arith}
 use borrow.Author.Needs.{needs}
-use lib.IntN.{pos}
 use mir.Syntax.{w64}
-use mir.Val.{SFits, toZ, ofZ}
-use Rattle.std.proofs.shelf.Lists.{take-rest}
+use mir.Val.{SFits}
 use Rattle.std.proofs.shelf.Results.{err-from-errBy, made-from-err}
 use Rattle.std.proofs.shelf.Signed.{toZ-ofZ}
 use Rattle.scan.proofs.Fractions.{fraction-ok, fraction-err}

@@ -1,12 +1,5 @@
-use mathlib.Core.Path.{_≡_, refl, sym, ap, _∙_}
-use native.Mathlib.Omega.{arith}
-use borrow.Author.Needs.{needs}
-use lib.IntN.{pos}
-use mir.Syntax.{w64}
-use mir.Val.{SFits, toZ, ofZ}
 use Rattle.std.proofs.shelf.Lists.{take-rest}
 use Rattle.std.proofs.shelf.Results.{err-from-errBy, made-from-err}
-use Rattle.std.proofs.shelf.Signed.{toZ-ofZ}
 use Rattle.scan.proofs.Fractions.{nanosecond-ok, nanosecond-err}
 use Rattle.scan.proofs.Leaves.{exits}
 use Rattle.scan.proofs.number.nanosecond.Needs as need

@@ -1,12 +1,9 @@
-use mathlib.Core.Path.{_≡_, refl, sym, ap, _∙_}
-use native.Mathlib.Omega.{arith}
+use mathlib.Core.Path.{_≡_}
 use borrow.Author.Needs.{needs}
 use lib.IntN.{pos}
 use mir.Syntax.{w64}
-use mir.Val.{SFits, toZ, ofZ}
-use Rattle.std.proofs.shelf.Lists.{take-rest}
+use mir.Val.{toZ, ofZ}
 use Rattle.std.proofs.shelf.Results.{err-from-errBy, made-from-err}
-use Rattle.std.proofs.shelf.Signed.{toZ-ofZ}
 use Rattle.scan.specs.Precisions.{digits-of}
 use Rattle.scan.proofs.Fractions.{fixed-ok, fixed-err}
 use Rattle.scan.proofs.Leaves.{exits}

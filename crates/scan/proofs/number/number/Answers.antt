@@ -1,11 +1,9 @@
-use Prim.Native.Nat.{ℕ, _+_, _-_, _*_, _≤_, _<_}
+use Prim.Native.Nat.{_+_, _-_, _*_}
 use mathlib.Core.Path.{_≡_, refl, sym, _∙_}
 use native.Mathlib.Omega.{arith}
-use borrow.Author.Needs.{needs}
-use lib.IntN.{ℤ, pos}
-use lib.ListN.{length, drop, getD}
+use lib.IntN.{pos}
+use lib.ListN.{length, getD}
 use mir.Syntax.{w64}
-use mir.Val.{SFits, toZ, ofZ}
 use Rattle.std.proofs.shelf.Signed.{toZ-pos}
 use Rattle.scan.specs.declared.kind.ParseErrorKind.the-variants.{OutOfRange, Invalid}
 use Rattle.scan.proofs.Digits.{no-more, too-short, at-most, none-yet, enough, too-large, goes-on, says-ok, says-err, number-cut, number-written, over, under, tenfold, added, digit-is}

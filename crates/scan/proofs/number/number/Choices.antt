@@ -1,6 +1,6 @@
 use Prim.Native.Nat.{ℕ, _≤_}
 use mathlib.Core.Path.{_≡_}
-use lib.IntN.{ℤ, pos}
+use lib.IntN.{pos}
 use lib.ListN.{drop}
 use Rattle.scan.specs.Numbers.{numeral-from, largest}
 use Rattle.scan.proofs.number.number.Given as given

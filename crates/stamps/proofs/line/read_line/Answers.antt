@@ -1,7 +1,7 @@
 use Prim.Native.Nat.{ℕ, _+_}
 use mathlib.Core.List.{List}
-use mathlib.Core.Path.{_≡_, refl, sym, subst}
-use lib.ListN.{length, take, drop}
+use mathlib.Core.Path.{_≡_, sym, subst}
+use lib.ListN.{drop}
 use Rattle.std.proofs.shelf.Lists.{take-rest}
 use Rattle.std.specs.Text.{Utf8}
 use Rattle.text.specs.Cuts.{Cut}

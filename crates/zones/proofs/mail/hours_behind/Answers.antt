@@ -1,4 +1,4 @@
-use Rattle.std.specs.declared.option.Option.the-variants.{Some, None}
+use Rattle.std.specs.declared.option.Option.the-variants.{Some}
 use Rattle.zones.proofs.Named.{in-table, not-in-table, behind-few}
 use Rattle.zones.proofs.mail.hours_behind.Needs as need
 

@@ -1,4 +1,4 @@
-use mathlib.Core.Path.{_≡_, sym, _∙_}
+use mathlib.Core.Path.{sym, _∙_}
 use Rattle.zones.proofs.Named.{found, passed, missed}
 use Rattle.zones.proofs.mail.listed.Needs as need
 

@@ -1,16 +1,13 @@
-use Prim.Native.Nat.{ℕ, _*_, _-_}
-use mathlib.Core.Path.{_≡_, refl, sym, ap, _∙_}
-use native.Mathlib.Omega.{arith}
+use mathlib.Core.Path.{_≡_, ap, _∙_}
 use borrow.Author.Needs.{needs}
-use lib.IntN.{ℤ, pos, negℤ}
 use lib.ListN.{take}
 use mir.Syntax.{w32}
-use mir.Val.{SFits, toZ, ofZ}
+use mir.Val.{SFits}
 use Rattle.scan.proofs.Leaves.{cuts-by}
 use Rattle.std.proofs.shelf.Signed.{toZ-ofZ}
 use Rattle.std.specs.declared.option.Option.the-variants.{Some, None}
-use Rattle.std.specs.declared.result.Result.the-variants.{Ok, Err}
-use Rattle.zones.specs.Mail.{named, behind, offset-2822-at}
+use Rattle.std.specs.declared.result.Result.the-variants.{Ok}
+use Rattle.zones.specs.Mail.{named, behind}
 use Rattle.zones.proofs.Named.{numeric, by-name, offset-2822-cut}
 use Rattle.zones.proofs.mail.timezone_offset_2822.Needs as need
 

@@ -1,11 +1,10 @@
-use Prim.Native.Nat.{ℕ, _<_}
-use mathlib.Core.Bool.{true, false}
-use mathlib.Core.Path.{_≡_, refl, sym, ap, _∙_}
+use Prim.Native.Nat.{_<_}
+use mathlib.Core.Path.{refl, sym, ap, _∙_}
 use native.Mathlib.Omega.{arith}
 use lib.ListN.{length}
 use Rattle.std.proofs.shelf.Ways.{tells}
 use Rattle.std.specs.declared.option.Option.the-variants.{Some, None}
-use Rattle.zones.specs.declared.offset.Sign.the-variants.{Plus, HyphenMinus, MinusSign}
+use Rattle.zones.specs.declared.offset.Sign.the-variants.{Plus, HyphenMinus}
 use Rattle.zones.proofs.Places.{sign-none, sign-first, sign-read, minus-read, minus-refused, sign-within}
 use Rattle.zones.proofs.offset.leading_sign.Needs as need
 

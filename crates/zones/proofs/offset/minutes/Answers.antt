@@ -1,9 +1,5 @@
-use Prim.Native.Nat.{ℕ, _+_, _≤_, _<_}
-use mathlib.Core.Path.{_≡_, refl, sym, ap, _∙_}
 use native.Mathlib.Omega.{arith}
 use borrow.Author.Needs.{needs}
-use lib.ListN.{length}
-use Rattle.std.proofs.shelf.Tests.{ltb-true, ltb-false}
 use Rattle.std.proofs.shelf.Ways.{tells}
 use Rattle.zones.proofs.Places.{minutes-two, minutes-few}
 use Rattle.zones.proofs.offset.minutes.Needs as need

@@ -1,9 +1,9 @@
-use mathlib.Core.Path.{_≡_, refl, sym, ap, _∙_}
+use mathlib.Core.Path.{refl, _∙_}
 use borrow.Author.Needs.{needs}
 use mir.Syntax.{w32}
-use mir.Val.{SFits, toZ, ofZ}
-use Rattle.scan.proofs.Leaves.{exits, cuts-by}
-use Rattle.std.proofs.shelf.Results.{err-from-errBy, made-from-err}
+use mir.Val.{SFits}
+use Rattle.scan.proofs.Leaves.{exits}
+use Rattle.std.proofs.shelf.Results.{err-from-errBy}
 use Rattle.std.proofs.shelf.Signed.{toZ-ofZ}
 use Rattle.zones.proofs.Offsets.{numeric-no-hours, numeric-no-minutes, numeric-all}
 use Rattle.zones.proofs.offset.numeric_offset.Needs as need

@@ -1,4 +1,3 @@
-use mathlib.Core.Path.{_≡_, refl, sym, ap, _∙_}
 use borrow.Author.Needs.{needs}
 use Rattle.scan.proofs.Leaves.{exits}
 use Rattle.std.proofs.shelf.Results.{err-from-errBy, made-from-err}

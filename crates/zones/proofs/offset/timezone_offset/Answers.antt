@@ -1,4 +1,4 @@
-use mathlib.Core.Path.{_≡_, refl}
+use mathlib.Core.Path.{refl}
 use Rattle.scan.proofs.Leaves.{cuts-by}
 use Rattle.zones.proofs.Offsets.{is-zulu, is-numeric, offset-cut}
 use Rattle.zones.proofs.offset.timezone_offset.Needs as need
