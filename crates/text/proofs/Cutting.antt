@@ -1,11 +1,11 @@
 -- Cuts: from what is left of a text, none, and one after another.
 use Prim.Native.Nat.{ℕ, _+_, _≤_, _<_}
 use mathlib.Core.List.{List, _∷_}
-use mathlib.Core.Path.{_≡_, sym, subst}
+use mathlib.Core.Path.{subst}
 use native.Mathlib.Omega.{arith}
 use lib.ListN.{length, drop, getD, length-drop}
-use Rattle.std.proofs.shelf.Lists.{drop-drop, drop-all}
-use Rattle.std.proofs.shelf.Text.{utf8-take, utf8-drop, utf8-nil, boundary-from-drop, boundary-after-ascii}
+use Rattle.std.proofs.shelf.Lists.{drop-drop}
+use Rattle.std.proofs.shelf.Text.{utf8-take, utf8-drop, boundary-from-drop, boundary-after-ascii}
 use Rattle.std.specs.Text.{Utf8}
 use Rattle.text.specs.Cuts.{Cut}
 
@@ -15,9 +15,6 @@ cut-by-left s n l f = record { within = l; taken = λ u. utf8-take s n u (bounda
 
 pub cut-none : (s : List ℕ) → Cut s 0
 cut-none s = cut-by-left s 0 (omega arith) (λ u. u)
-
-pub cut-all : (s : List ℕ) (n : ℕ) → n ≡ length s → Cut s n
-cut-all s n e = cut-by-left s n (omega arith) (λ _. subst Utf8 (sym (drop-all n s (omega arith))) utf8-nil)
 
 -- a cut in what is left by another
 pub cut-more : (s : List ℕ) (n m : ℕ) → Cut s n → Cut (drop n s) m → Cut s (n + m)

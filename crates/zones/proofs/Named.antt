@@ -3,7 +3,7 @@ use Prim.Native.Nat.{ℕ, _+_, _≤_, _<_}
 use mathlib.Core.Bool.{true, false, cond}
 use mathlib.Core.List.{List, [], _∷_, map}
 use mathlib.Core.Logic.{⊎-elim}
-use mathlib.Core.Path.{_≡_, refl, sym, ap, _∙_, subst}
+use mathlib.Core.Path.{_≡_, sym, ap, _∙_, subst}
 use native.Mathlib.Omega.{arith}
 use denote.Ref.{RefT}
 use lib.Dec.{eqb, leb}
@@ -47,16 +47,6 @@ unfolding listed
 missed zs name i l = at-drop-all (by-rows name) zs i l
 
 -- ---- a name
-pub military-one : (s : List ℕ) → length s ≡ 1 → military s ≡ cond (eqb (lower (getD s 0 0)) 106) None (Some 0)
-military-one [] h = absurd (omega arith)
-military-one (a ∷ []) h = refl
-military-one (a ∷ b ∷ bs) h = absurd (omega arith)
-
-pub military-else : (s : List ℕ) → (length s ≡ 1 → ⊥) → military s ≡ None
-military-else [] h = refl
-military-else (a ∷ []) h = absurd (h refl)
-military-else (a ∷ b ∷ bs) h = refl
-
 pub in-table : (name : List ℕ) (h : ℕ) → Some h ≡ listed zone-table name → Some h ≡ behind name
 unfolding behind
 in-table name h e = ap (λ x. or-else x (military name)) e
