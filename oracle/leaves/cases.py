@@ -64,7 +64,7 @@ def digits():
 
 def words():
     for name in MONTHS + DAYS + ["Foo", "Janx", "Mai", "Sept", "Tues", "Thurs"]:
-        for text in {name, name.lower(), name.upper(), name.swapcase(), name + "s", name[:-1], name[:3], name[:2], name[:4], name[:3] + "\u00e9", name[:2] + "\u00e9", " " + name}:
+        for text in (name, name.lower(), name.upper(), name.swapcase(), name + "s", name[:-1], name[:3], name[:2], name[:4], name[:3] + "\u00e9", name[:2] + "\u00e9", " " + name):
             for leaf in ("short_month0", "short_or_long_month0", "short_weekday", "short_or_long_weekday"):
                 case(leaf, text)
 
@@ -79,7 +79,7 @@ def offsets():
                 case("timezone_offset", text, sep, flags >> 2 & 1, flags >> 1 & 1, flags & 1)
         case("timezone_offset_2822", text)
     for name in ZONES + [chr(c) for c in range(65, 91)] + ["CET", "ESTX", "UTC", "ES", "E ST"]:
-        for text in {name, name.lower(), name.swapcase(), name + "1", name + " x", name + "\u00e9"}:
+        for text in (name, name.lower(), name.swapcase(), name + "1", name + " x", name + "\u00e9"):
             case("timezone_offset_2822", text)
 
 
