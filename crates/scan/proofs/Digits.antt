@@ -1,5 +1,5 @@
 -- Digits: one more, the end, how large a number is, and where it cuts.
-use Prim.Native.Nat.{ℕ, _+_, _-_, _*_, _^_, _≤_, _<_}
+use Prim.Native.Nat.{ℕ, suc, _+_, _-_, _*_, _^_, _≤_, _<_}
 use mathlib.Core.Bool.{true, false, cond}
 use mathlib.Core.List.{List, [], _∷_}
 use mathlib.Core.Logic.{⊎-elim}
@@ -8,14 +8,15 @@ use native.Mathlib.Nat.{pow-suc, mul-le-mul-right, mul-assoc, mul-comm, one-mul,
 use native.Mathlib.Omega.{arith}
 use lib.Dec.{leb, ltb}
 use lib.IntN.{ℤ, pos, _+ℤ_, _*ℤ_}
-use lib.ListN.{length, drop, getD}
+use lib.ListN.{length, take, drop, getD}
 use mir.Syntax.{w64}
 use mir.Val.{SFits, toZ, ofZ}
 use Rattle.std.proofs.shelf.Lists.{at-drop-more, at-drop-all}
 use Rattle.std.proofs.shelf.Signed.{toZ-pos}
 use Rattle.std.proofs.shelf.Tests.{cases-lt, cond-both, leb-true, leb-false, and-parts}
 use Rattle.std.proofs.shelf.Ways.{tells}
-use Rattle.std.specs.Text.{asciiDigit}
+use Rattle.std.specs.Reads.{Digits, valueAfter}
+use Rattle.std.specs.Text.{asciiDigit, digitValue}
 use Rattle.std.specs.Vec.{made}
 use Rattle.std.specs.declared.result.Result.{Result}
 use Rattle.std.specs.declared.result.Result.the-variants.{Ok, Err}
@@ -83,24 +84,46 @@ pub record More (hi v n : ℕ) (s : List ℕ) (w m : ℕ) : Type 0 where
   pub more : ℕ
   pub count : m ≡ n + more
   pub cut : Cut s more
+  pub digits : Digits 10 (take more s)
+  pub decimal : w ≡ valueAfter 10 v (take more s)
   pub small : w < (v + 1) * 10 ^ more
   pub few : n ≤ hi → m ≤ hi
 
 stays : (hi v n : ℕ) (s : List ℕ) → More hi v n s v n
 stays hi v n s =
-    record { more = 0; count = omega arith; cut = cut-none s; small = rw (pow-zero 10, mul-one (v + 1)) (omega arith); few = λ h. h }
+    record {
+      more = 0;
+      count = omega arith;
+      cut = cut-none s;
+      digits = tt;
+      decimal = refl;
+      small = rw (pow-zero 10, mul-one (v + 1)) (omega arith);
+      few = λ h. h;
+    }
 
-grows : (hi v n b : ℕ) (bs : List ℕ) (w m : ℕ) → (leb hi n ≡ false) → asciiDigit b ≡ true → More hi (v * 10 + (b - 48)) (n + 1) bs w m → More hi v n (b ∷ bs) w m
+digit-value : (b : ℕ) → asciiDigit b ≡ true → (digitValue b ≡ b - 48) × (digitValue b < 10)
+digit-value b d = let g = digit-is b d in let e : digitValue b ≡ b - 48 = grind (arith, tells) in (e, omega arith)
+
+grows : (hi v n b : ℕ) (bs : List ℕ) (w m : ℕ) → leb hi n ≡ false → asciiDigit b ≡ true → More hi (v * 10 + (b - 48)) (n + 1) bs w m → More hi v n (b ∷ bs) w m
 grows hi v n b bs w m h d r =
     let k = r .more in
     let e = r .count in
     let g = digit-is b d in
+    let q = digit-value b d in
     let l = leb-false hi n h in
-    let p : 10 ^ (1 + k) ≡ 10 ^ k * 10 = ap (λ x. 10 ^ x) (omega arith) ∙ pow-suc 10 k in
-    let t : (v + 1) * 10 ^ (1 + k) ≡ ((v + 1) * 10) * 10 ^ k = rw p (rw (mul-comm (10 ^ k) 10) (sym (mul-assoc (v + 1) 10 (10 ^ k)))) in
+    let p : 10 ^ suc k ≡ 10 ^ k * 10 = pow-suc 10 k in
+    let t : (v + 1) * 10 ^ suc k ≡ ((v + 1) * 10) * 10 ^ k = rw p (rw (mul-comm (10 ^ k) 10) (sym (mul-assoc (v + 1) 10 (10 ^ k)))) in
     let u : (v * 10 + (b - 48) + 1) * 10 ^ k ≤ ((v + 1) * 10) * 10 ^ k = mul-le-mul-right (10 ^ k) (omega arith) in
     let s = r .small in
-    record { more = 1 + k; count = omega arith; cut = cut-cons b bs k (omega arith) (r .cut); small = omega arith; few = λ _. r .few (omega arith) }
+    record {
+      more = suc k;
+      count = omega arith;
+      cut = subst (λ j. Cut (b ∷ bs) j) (omega arith) (cut-cons b bs k (omega arith) (r .cut));
+      digits = (q .1, r .digits);
+      decimal = r .decimal ∙ ap (λ x. valueAfter 10 (v * 10 + x) (take k bs)) (sym (q .0));
+      small = omega arith;
+      few = λ _. r .few (omega arith);
+    }
 
 made-more : (hi v n b : ℕ) (bs : List ℕ) (x : Result (ℕ × ℕ) ParseErrorKind) → leb hi n ≡ false → asciiDigit b ≡ true
     → made x (λ p. More hi (v * 10 + (b - 48)) (n + 1) bs (p .0) (p .1)) → made x (λ p. More hi v n (b ∷ bs) (p .0) (p .1))
@@ -124,28 +147,33 @@ numeral-more lo hi s =
 numeral-cut : (hi : ℕ) (s : List ℕ) (w m : ℕ) → More hi 0 0 s w m → Cut s m
 numeral-cut hi s w m r = let e = r .count in subst (λ k. Cut s k) (omega arith) (r .cut)
 
-numeral-small : (hi : ℕ) (s : List ℕ) (w m : ℕ) → More hi 0 0 s w m → (w < 10 ^ m) × (m ≤ hi)
-numeral-small hi s w m r =
+numeral-written : (hi : ℕ) (s : List ℕ) (w m : ℕ) → More hi 0 0 s w m → Written hi s (pos w) m
+numeral-written hi s w m r =
     let e = r .count in
     let q : r .more ≡ m = omega arith in
     let b = r .small in
     let u : (0 + 1) * 10 ^ r .more ≡ 10 ^ m = one-mul (10 ^ r .more) ∙ ap (λ k. 10 ^ k) q in
-    (omega arith, r .few (omega arith))
+    record {
+      number = w;
+      is = refl;
+      digits = subst (λ k. Digits 10 (take k s)) q (r .digits);
+      decimal = r .decimal ∙ ap (λ k. valueAfter 10 0 (take k s)) q;
+      small = omega arith;
+      few = r .few (omega arith);
+    }
 
 cuts-integer : (hi : ℕ) (s : List ℕ) (x : Result (ℕ × ℕ) ParseErrorKind) → made x (λ p. More hi 0 0 s (p .0) (p .1)) → Cuts s (as-integer x)
 cuts-integer hi s (Ok p) r = numeral-cut hi s (p .0) (p .1) r
 cuts-integer hi s (Err e) r = tt
 
-written-integer : (hi : ℕ) (s : List ℕ) (x : Result (ℕ × ℕ) ParseErrorKind) → made x (λ p. More hi 0 0 s (p .0) (p .1)) → made (as-integer x) (λ p. Written hi (p .0) (p .1))
-written-integer hi s (Ok p) r =
-    let b = numeral-small hi s (p .0) (p .1) r in
-    record { value = p .0; is = refl; small = b .0; few = b .1 }
+written-integer : (hi : ℕ) (s : List ℕ) (x : Result (ℕ × ℕ) ParseErrorKind) → made x (λ p. More hi 0 0 s (p .0) (p .1)) → made (as-integer x) (λ p. Written hi s (p .0) (p .1))
+written-integer hi s (Ok p) r = numeral-written hi s (p .0) (p .1) r
 written-integer hi s (Err e) r = tt
 
 pub number-cut : (lo hi : ℕ) (s : List ℕ) → Cuts s (number-at lo hi s)
 number-cut lo hi s = cuts-integer hi s (numeral-at lo hi s) (numeral-more lo hi s)
 
-pub number-written : (lo hi : ℕ) (s : List ℕ) → made (number-at lo hi s) (λ p. Written hi (p .0) (p .1))
+pub number-written : (lo hi : ℕ) (s : List ℕ) → made (number-at lo hi s) (λ p. Written hi s (p .0) (p .1))
 number-written lo hi s = written-integer hi s (numeral-at lo hi s) (numeral-more lo hi s)
 
 -- ---- a number that grows by a digit, in 64 bits

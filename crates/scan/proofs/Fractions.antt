@@ -50,13 +50,13 @@ below w n l h =
     omega arith
 
 -- a fraction by the number that it is
-pub fraction-ok : (lo hi : ℕ) (s : List ℕ) (z : ℤ) (n : ℕ) → hi ≤ 9 → Ok (z, n) ≡ number-at lo hi s → Written hi z n
+pub fraction-ok : (lo hi : ℕ) (s : List ℕ) (z : ℤ) (n : ℕ) → hi ≤ 9 → Ok (z, n) ≡ number-at lo hi s → Written hi s z n
     → (Ok (natAbs z * getD scale n 0, n) ≡ fraction-at lo hi s) × (natAbs z * getD scale n 0 < 1000000000)
 unfolding fraction-at
 fraction-ok lo hi s z n l e w =
     let x = as-ok (numeral-at lo hi s) z n e in
     let f = w .few in
-    let q : w .value ≡ x .0 = (let r : pos (w .value) ≡ pos (x .0) = sym (w .is) ∙ x .1 in cc) in
+    let q : w .number ≡ x .0 = (let r : pos (w .number) ≡ pos (x .0) = sym (w .is) ∙ x .1 in cc) in
     let g : getD scale n 0 ≡ 10 ^ (9 - n) = scale-is n (omega arith) in
     let b = below (x .0) n (omega arith) (subst (λ k. k < 10 ^ n) q (w .small)) in
     let m : natAbs z * getD scale n 0 ≡ x .0 * 10 ^ (9 - n) = ap (λ y. natAbs y * getD scale n 0) (x .1) ∙ ap (λ k. x .0 * k) g in

@@ -5,8 +5,9 @@ use mathlib.Core.List.{List, [], _∷_}
 use mathlib.Core.Path.{_≡_}
 use lib.Dec.{eqb, ltb, leb}
 use lib.IntN.{ℤ, pos, _+ℤ_}
-use lib.ListN.{length, drop}
+use lib.ListN.{length, take, drop}
 use lib.Signed.{leZ}
+use Rattle.std.specs.Reads.{Digits, value}
 use Rattle.std.specs.Text.{asciiDigit}
 use Rattle.std.specs.declared.result.Result.{Result}
 use Rattle.std.specs.declared.result.Result.the-variants.{Ok, Err}
@@ -39,11 +40,13 @@ as-integer (Err e) = Err e
 abbrev pub number-at : ℕ → ℕ → List ℕ → Result (ℤ × ℕ) ParseErrorKind
 number-at least most s = as-integer (numeral-at least most s)
 
--- a number that so many digits write
-pub record Written (most : ℕ) (z : ℤ) (n : ℕ) : Type 0 where
-  pub value : ℕ
-  pub is : z ≡ pos value
-  pub small : value < 10 ^ n
+-- z is the decimal value of the first n bytes of s, which are digits, and no more than `most`
+pub record Written (most : ℕ) (s : List ℕ) (z : ℤ) (n : ℕ) : Type 0 where
+  pub number : ℕ
+  pub is : z ≡ pos number
+  pub digits : Digits 10 (take n s)
+  pub decimal : number ≡ value 10 (take n s)
+  pub small : number < 10 ^ n
   pub few : n ≤ most
 
 -- how many digits stand in front

@@ -12,7 +12,7 @@ use super::kind::ParseErrorKind;
 pub fn number(s: &[u8], min: usize, max: usize) -> Result<(i64, usize), ParseErrorKind>
     ensures value { λ r. ⌜ r ≡ number-at min max (now (s .entry)) ⌝ }
     ensures cut { λ r. ⌜ Cuts (now (s .entry)) r ⌝ }
-    ensures written { λ r. ⌜ made r (λ p. Written max (p .0) (p .1)) ⌝ }
+    ensures written { λ r. ⌜ made r (λ p. Written max (now (s .entry)) (p .0) (p .1)) ⌝ }
 {
     if s.len() < min {
         return Err(ParseErrorKind::TooShort);
