@@ -1,7 +1,7 @@
 // The fields that a line may hold.
 ghost use mathlib.Core.Path.{_≡_};
 ghost use Rattle.scan.specs.Steps.{Cuts};
-ghost use Rattle.stamps.specs.Fields.{read-at};
+ghost use Rattle.stamps.specs.Fields.{Named, read-at, words};
 use names::names::short_or_long_month0;
 use names::names::short_or_long_weekday;
 use names::weekday::Weekday;
@@ -27,7 +27,9 @@ pub(crate) enum Form {
 }
 
 // What the first word of a line stands for.
-pub(crate) fn form_of(word: &[u8]) -> Option<Form> {
+pub(crate) fn form_of(word: &[u8]) -> Option<Form>
+    ensures { λ r. ⌜ Named words (now (word .entry)) r ⌝ }
+{
     match word {
         b"zone" => Some(Form::Zone),
         b"mailzone" => Some(Form::MailZone),
