@@ -1,4 +1,6 @@
 // Fields, refusals, and the interface of what collects values for fields.
+#![tactic(auto)]
+
 pub mod collector;
 pub mod compare;
 pub mod fault;

@@ -1,4 +1,6 @@
 // Comments as e-mail headers have them (RFC 2822, section 3.2.3).
+#![tactic(auto)]
+
 ghost use Rattle.std.specs.Prelude.{◌≡◌};
 ghost use Rattle.comments.specs.Comments.{closes_at, comment_at};
 ghost use Rattle.comments.specs.Grammar.{Exactly};

@@ -1,4 +1,6 @@
 // A collector that keeps its values in the order in which they came.
+#![tactic(auto)]
+
 ghost use Rattle.std.specs.Prelude.{◌≡◌, ◌≤◌, true, vec_capacity};
 ghost use Rattle.docket.specs.Entries.{apart, fit};
 

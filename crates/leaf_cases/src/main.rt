@@ -1,5 +1,7 @@
 // Answers cases for the leaf scanners, one a line: the leaf's name, four numbers that it may take, and its text in hex.
 // The stored answers are those of chrono's own scanners (oracle/leaf-cases).
+#![tactic(auto)]
+
 mod answer;
 mod leaves;
 

@@ -1,4 +1,6 @@
 // Examples for the leaf scanners, from the RFCs and from chrono's documentation.
+#![tactic(auto)]
+
 #[cfg(test)]
 mod comment_examples;
 #[cfg(test)]

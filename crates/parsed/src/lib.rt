@@ -1,4 +1,6 @@
 // `Parsed`: a record with a named field for each.
+#![tactic(auto)]
+
 ghost use Rattle.std.specs.Prelude.{◌≡◌, true, [], ◌∷◌, None};
 ghost use Rattle.parsed.specs.Slots.{counts, days, all_fit};
 

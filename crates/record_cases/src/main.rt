@@ -1,5 +1,7 @@
 // Answers cases for the setters, one a line: calls `S NAME VALUE` joined by ` ; `, on one fresh record.
 // The stored answers are those of chrono's own setters (oracle/record-cases).
+#![tactic(auto)]
+
 mod case;
 
 use case::Case;

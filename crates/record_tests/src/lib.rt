@@ -1,4 +1,6 @@
 // Examples for records: every range at both ends, on both kinds of collectors, and what refusals leave.
+#![tactic(auto)]
+
 #[cfg(test)]
 mod docket_examples;
 #[cfg(test)]

@@ -1,4 +1,6 @@
 // Reads single fields of stamps, and sets fields of a record, one a line; prints for each what it means or why it is refused.
+#![tactic(auto)]
+
 mod form;
 mod line;
 mod record;

@@ -1,4 +1,6 @@
 // Text: which bytes are UTF-8, the character that stands in front, and blanks.
+#![tactic(auto)]
+
 ghost use Rattle.std.specs.Prelude.{◌≡◌, ◌<◌, take};
 ghost use Rattle.text.specs.Chars.{first_char, blank, blanks_at, non_blanks_at, text_check};
 ghost use Rattle.text.specs.Cuts.{Cut, First, Longest, Checked};

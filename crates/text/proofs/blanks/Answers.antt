@@ -12,15 +12,15 @@ pub loop-b-preserved : goal.loop-b-preserved
 loop-b-preserved c =
     (c.loop-b.invariant.0, passed c.in-Some.c white_space c.loop-b.b-index c.loop-b-test.true c.if-c-b.false ∙ c.loop-b.invariant.1)
 
-pub overflow-add-n : goal.overflow-add-n
-overflow-add-n c =
+pub overflow_add-n : goal.overflow_add-n
+overflow_add-n c =
     let r = going_room blank c.args.s.now c.chars.n c.chars.invariant c.in-Some.c c.in-Some.ensures.value in
     search rules
 
 pub chars-smaller : goal.chars-smaller
 chars-smaller c =
     let r = going_room blank c.args.s.now c.chars.n c.chars.invariant c.in-Some.c c.in-Some.ensures.value in
-    let w = c.len-utf8-n.ensures.value in
+    let w = c.len_utf8-n.ensures.value in
     let i = c.loop-b.invariant.0 in
     omega arith
 
@@ -29,8 +29,8 @@ unfolding blank
 chars-preserved c =
     let b : blank c.in-Some.c ≡ true
     = sym c.loop-b.invariant.1 ∙ found c.in-Some.c white_space c.loop-b.b-index c.loop-b-test.true c.if-c-b.true in
-    going_more blank c.args.s.now c.chars.n c.chars.invariant c.in-Some.c c.loop-b.n c.len-utf8-n.result
-    c.in-Some.ensures.value b c.loop-b.invariant.0 c.len-utf8-n.ensures.value
+    going_more blank c.args.s.now c.chars.n c.chars.invariant c.in-Some.c c.loop-b.n c.len_utf8-n.result
+    c.in-Some.ensures.value b c.loop-b.invariant.0 c.len_utf8-n.ensures.value
 
 pub returns-after-loop-b : goal.returns-after-loop-b
 unfolding blank blanks_at
@@ -43,7 +43,7 @@ returns-after-loop-b c =
       cut = subst (λ k. Cut c.args.s.now k) (sym i) c.chars.invariant.cut;
     }
 
-pub returns-in-default : goal.returns-in-default
+pub returns-in_default : goal.returns-in_default
 unfolding blanks_at
-returns-in-default c =
-    record { value = going_none blank c.args.s.now c.chars.n c.chars.invariant c.in-default.ensures.value; cut = c.chars.invariant.cut }
+returns-in_default c =
+    record { value = going_none blank c.args.s.now c.chars.n c.chars.invariant c.in_default.ensures.value; cut = c.chars.invariant.cut }

@@ -10,7 +10,7 @@ returns-in-Ok c =
 pub returns-in-Err : goal.returns-in-Err
 returns-in-Err c =
     let e = c.in-Err.ensures.cases in
-    let l = from_std c.args.bytes.now _ _ e.1 c.valid-up-to.ensures in
+    let l = from_std c.args.bytes.now _ _ e.1 c.valid_up_to.ensures in
     let s = e.1.short in
-    let v = c.valid-up-to.ensures in
+    let v = c.valid_up_to.ensures in
     record { value = check_no c.args.bytes.now _ l (omega arith); meaning = (e.0, l) }

@@ -51,7 +51,7 @@ returns-then-b-lt128 c =
 pub returns : goal.returns
 returns c =
     let e = c.in-Ok.ensures.cases in
-    let t : c.in-Ok.text.now ≡ take c.valid-len-n.result c.four-front.result.now = search rules in
-    let v = go c.args.s.now c.four-front.result.now c.in-Ok.text.now (chars_rest c.next.new.self) c.valid-len-n.result c.next.result
-    c.four-front.ensures c.valid-len-n.ensures t (subst IsUtf8 (sym e.0) e.1) (search rules) in
+    let t : c.in-Ok.text.now ≡ take c.valid_len-n.result c.four-front.result.now = search rules in
+    let v = go c.args.s.now c.four-front.result.now c.in-Ok.text.now (chars_rest c.next.new.self) c.valid_len-n.result c.next.result
+    c.four-front.ensures c.valid_len-n.ensures t (subst IsUtf8 (sym e.0) e.1) (search rules) in
     record { value = v; meaning = first_is c.args.s.now _ v }

@@ -10,15 +10,15 @@ chars-init c = going_start not_blank c.args.s.now
 pub loop-b-preserved : goal.loop-b-preserved
 loop-b-preserved c = passed c.in-Some.c white_space c.loop-b.b-index c.loop-b-test.true c.if-c-b.false ∙ c.loop-b.invariant
 
-pub overflow-add-end : goal.overflow-add-end
-overflow-add-end c =
+pub overflow_add-end : goal.overflow_add-end
+overflow_add-end c =
     let r = going_room not_blank c.args.s.now c.chars.end c.chars.invariant c.in-Some.c c.in-Some.ensures.value in
     search rules
 
 pub chars-smaller : goal.chars-smaller
 chars-smaller c =
     let r = going_room not_blank c.args.s.now c.chars.end c.chars.invariant c.in-Some.c c.in-Some.ensures.value in
-    let w = c.len-utf8-end.ensures.value in
+    let w = c.len_utf8-end.ensures.value in
     omega arith
 
 pub chars-preserved : goal.chars-preserved
@@ -26,8 +26,8 @@ unfolding blank
 chars-preserved c =
     let b : not_blank c.in-Some.c ≡ true
     = ap not (sym c.loop-b.invariant ∙ missed c.in-Some.c white_space c.loop-b.b-index c.loop-b-test.false) in
-    going_more not_blank c.args.s.now c.chars.end c.chars.invariant c.in-Some.c c.chars.end c.len-utf8-end.result
-    c.in-Some.ensures.value b refl c.len-utf8-end.ensures.value
+    going_more not_blank c.args.s.now c.chars.end c.chars.invariant c.in-Some.c c.chars.end c.len_utf8-end.result
+    c.in-Some.ensures.value b refl c.len_utf8-end.ensures.value
 
 pub returns-then-c-b : goal.returns-then-c-b
 unfolding blank non_blanks_at
@@ -39,7 +39,7 @@ returns-then-c-b c =
       cut = c.chars.invariant.cut;
     }
 
-pub returns-in-default : goal.returns-in-default
+pub returns-in_default : goal.returns-in_default
 unfolding non_blanks_at
-returns-in-default c =
-    record { value = going_none not_blank c.args.s.now c.chars.end c.chars.invariant c.in-default.ensures.value; cut = c.chars.invariant.cut }
+returns-in_default c =
+    record { value = going_none not_blank c.args.s.now c.chars.end c.chars.invariant c.in_default.ensures.value; cut = c.chars.invariant.cut }

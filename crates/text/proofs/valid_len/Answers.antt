@@ -9,4 +9,4 @@ returns-in-Ok c =
     subst (λ n. Longest c.args.bytes.now n) (sym (ap length e.0)) (longest_all c.args.bytes.now e.1)
 
 pub returns-in-Err : goal.returns-in-Err
-returns-in-Err c = from_std c.args.bytes.now _ _ c.in-Err.ensures.cases.1 c.valid-up-to.ensures
+returns-in-Err c = from_std c.args.bytes.now _ _ c.in-Err.ensures.cases.1 c.valid_up_to.ensures
