@@ -19,42 +19,42 @@ returns-then-i-max c =
 
 pub returns-then-i-min : goal.returns-then-i-min
 returns-then-i-min c =
-    record { value = says_err c.args.min c.args.max c.args.s.now c.if-s-min.false _ c.loop-i.i c.loop-i.invariant Invalid (none_yet c.args.min c.args.max c.loop-i.invariant.0 c.loop-i.i c.args.s.now c.loop-i-test.true c.if-i-max.false (sym c.if-not-is-ascii-digit.ensures.value) c.if-i-min.true); cut = tt; written = tt }
+    record { value = says_err c.args.min c.args.max c.args.s.now c.if-s-min.false _ c.loop-i.i c.loop-i.invariant Invalid (none_yet c.args.min c.args.max c.loop-i.invariant.0 c.loop-i.i c.args.s.now c.loop-i-test.true c.if-i-max.false (sym c.if-not-is_ascii_digit.ensures.value) c.if-i-min.true); cut = tt; written = tt }
 
 pub returns-else-i-min : goal.returns-else-i-min
 returns-else-i-min c =
-    let v = says_ok c.args.min c.args.max c.args.s.now c.if-s-min.false _ c.loop-i.i c.loop-i.invariant (enough c.args.min c.args.max c.loop-i.invariant.0 c.loop-i.i c.args.s.now c.loop-i-test.true c.if-i-max.false (sym c.if-not-is-ascii-digit.ensures.value) c.if-i-min.false) in
+    let v = says_ok c.args.min c.args.max c.args.s.now c.if-s-min.false _ c.loop-i.i c.loop-i.invariant (enough c.args.min c.args.max c.loop-i.invariant.0 c.loop-i.i c.args.s.now c.loop-i-test.true c.if-i-max.false (sym c.if-not-is_ascii_digit.ensures.value) c.if-i-min.false) in
     record {
       value = v;
       cut = cuts_by _ _ _ v (number_cut c.args.min c.args.max c.args.s.now);
       written = made_by _ _ _ v (number_written c.args.min c.args.max c.args.s.now);
     }
 
-pub returns-in-default : goal.returns-in-default
-returns-in-default c =
-    let p = over _ _ (tenfold _ _ c.loop-i.invariant.1) c.in-default.ensures in
-    record { value = says_err c.args.min c.args.max c.args.s.now c.if-s-min.false _ c.loop-i.i c.loop-i.invariant OutOfRange (too_large c.args.min c.args.max c.loop-i.invariant.0 c.loop-i.i c.args.s.now c.loop-i-test.true c.if-i-max.false (sym c.if-not-is-ascii-digit.ensures.value) (omega arith)); cut = tt; written = tt }
+pub returns-in_default : goal.returns-in_default
+returns-in_default c =
+    let p = over _ _ (tenfold _ _ c.loop-i.invariant.1) c.in_default.ensures in
+    record { value = says_err c.args.min c.args.max c.args.s.now c.if-s-min.false _ c.loop-i.i c.loop-i.invariant OutOfRange (too_large c.args.min c.args.max c.loop-i.invariant.0 c.loop-i.i c.args.s.now c.loop-i-test.true c.if-i-max.false (sym c.if-not-is_ascii_digit.ensures.value) (omega arith)); cut = tt; written = tt }
 
-pub returns-in-default-checked-add : goal.returns-in-default-checked-add
-returns-in-default-checked-add c =
+pub returns-in_default-checked_add : goal.returns-in_default-checked_add
+returns-in_default-checked_add c =
     let d = get_or c.args.s.now c.loop-i.i 0 - 48 in
-    let g = digit_is (get_or c.args.s.now c.loop-i.i 0) (sym c.if-not-is-ascii-digit.ensures.value) in
+    let g = digit_is (get_or c.args.s.now c.loop-i.i 0) (sym c.if-not-is_ascii_digit.ensures.value) in
     let z = added _ c.in-Some.tens c.loop-i.invariant.0 d c.loop-i.invariant.1 c.in-Some.ensures (omega arith) in
-    let p = over _ _ z c.in-default-checked-add.ensures in
-    record { value = says_err c.args.min c.args.max c.args.s.now c.if-s-min.false _ c.loop-i.i c.loop-i.invariant OutOfRange (too_large c.args.min c.args.max c.loop-i.invariant.0 c.loop-i.i c.args.s.now c.loop-i-test.true c.if-i-max.false (sym c.if-not-is-ascii-digit.ensures.value) (omega arith)); cut = tt; written = tt }
+    let p = over _ _ z c.in_default-checked_add.ensures in
+    record { value = says_err c.args.min c.args.max c.args.s.now c.if-s-min.false _ c.loop-i.i c.loop-i.invariant OutOfRange (too_large c.args.min c.args.max c.loop-i.invariant.0 c.loop-i.i c.args.s.now c.loop-i-test.true c.if-i-max.false (sym c.if-not-is_ascii_digit.ensures.value) (omega arith)); cut = tt; written = tt }
 
 pub loop-i-preserved : goal.loop-i-preserved
 loop-i-preserved c =
     let d = get_or c.args.s.now c.loop-i.i 0 - 48 in
-    let g = digit_is (get_or c.args.s.now c.loop-i.i 0) (sym c.if-not-is-ascii-digit.ensures.value) in
+    let g = digit_is (get_or c.args.s.now c.loop-i.i 0) (sym c.if-not-is_ascii_digit.ensures.value) in
     let z = added _ c.in-Some.tens c.loop-i.invariant.0 d c.loop-i.invariant.1 c.in-Some.ensures (omega arith) in
-    let f = c.in-Some-checked-add.ensures in
+    let f = c.in-Some-checked_add.ensures in
     let p = under _ _ z f.0 in
-    let q : c.in-Some-checked-add.sum ≡ pos (c.loop-i.invariant.0 * 10 + d) = f.1 ∙ z in (
+    let q : c.in-Some-checked_add.sum ≡ pos (c.loop-i.invariant.0 * 10 + d) = f.1 ∙ z in (
       c.loop-i.invariant.0 * 10 + d,
       rw (q, to_z_pos w64 (c.loop-i.invariant.0 * 10 + d) (omega arith)) refl,
       p,
-      sym (goes_on c.args.min c.args.max c.loop-i.invariant.0 c.loop-i.i c.args.s.now c.loop-i-test.true c.if-i-max.false (sym c.if-not-is-ascii-digit.ensures.value) (omega arith)) ∙ c.loop-i.invariant.3,
+      sym (goes_on c.args.min c.args.max c.loop-i.invariant.0 c.loop-i.i c.args.s.now c.loop-i-test.true c.if-i-max.false (sym c.if-not-is_ascii_digit.ensures.value) (omega arith)) ∙ c.loop-i.invariant.3,
     )
 
 pub returns : goal.returns

@@ -17,8 +17,8 @@ end : (s : List ℕ) → length s ≤ 0 → space_at s ≡ Err TooShort
 unfolding space_at
 end s l = at_drop_all space_at s 0 l
 
-pub returns-then-is-empty : goal.returns-then-is-empty
-returns-then-is-empty c = record { value = sym (end c.args.s.now (grind (arith, nat_tests))); cut = tt }
+pub returns-then-is_empty : goal.returns-then-is_empty
+returns-then-is_empty c = record { value = sym (end c.args.s.now (grind (arith, nat_tests))); cut = tt }
 
 pub returns-in-0 : goal.returns-in-0
 returns-in-0 c =
@@ -26,8 +26,8 @@ returns-in-0 c =
     let b = c.blanks.ensures.value in
     record { value = grind (arith, nat_tests); cut = tt }
 
-pub returns-in-default : goal.returns-in-default
-returns-in-default c =
+pub returns-in_default : goal.returns-in_default
+returns-in_default c =
     let h = here c.args.s.now (grind (arith, nat_tests)) in
     let b = c.blanks.ensures.value in
     let v : Ok c.blanks.result ≡ space_at c.args.s.now = grind (arith, nat_tests) in
