@@ -84,9 +84,9 @@ fn separated<S: Separator>(
     sep: &mut S,
     allow_missing: bool,
 ) -> Result<(u32, usize), ParseErrorKind>
-    ensures value { result ≡ separated_at (means sep.old) allow_missing s.now }
+    ensures value { result ≡ separated_at (S.means sep.old) allow_missing s.now }
     ensures within { IfOk result (λ p. (p.0 < 60) × (p.1 ≤ length s.now)) }
-    ensures same { (t : List ℕ) → means sep.new t ≡ means sep.old t }
+    ensures same { (t : List ℕ) → S.means sep.new t ≡ S.means sep.old t }
 {
     let k = sep.run(s)?;
     let (value, n) = minutes(&s[k..], allow_missing)?;
@@ -131,8 +131,8 @@ fn numeric_offset<S: Separator>(
     allow_missing_minutes: bool,
     allow_tz_minus_sign: bool,
 ) -> Result<(i32, usize), ParseErrorKind>
-    ensures value { result ≡ numeric_at (means sep.old) allow_missing_minutes allow_tz_minus_sign s.now }
-    ensures same { (t : List ℕ) → means sep.new t ≡ means sep.old t }
+    ensures value { result ≡ numeric_at (S.means sep.old) allow_missing_minutes allow_tz_minus_sign s.now }
+    ensures same { (t : List ℕ) → S.means sep.new t ≡ S.means sep.old t }
 {
     let (negative, hours, n) = signed_hours(s, allow_tz_minus_sign)?;
     let (minutes, m) = separated(&s[n..], sep, allow_missing_minutes)?;
@@ -147,9 +147,9 @@ pub fn timezone_offset<S: Separator>(
     allow_missing_minutes: bool,
     allow_tz_minus_sign: bool,
 ) -> Result<(i32, usize), ParseErrorKind>
-    ensures value { result ≡ offset_at (means sep.old) allow_zulu allow_missing_minutes allow_tz_minus_sign s.now }
+    ensures value { result ≡ offset_at (S.means sep.old) allow_zulu allow_missing_minutes allow_tz_minus_sign s.now }
     ensures cut { Cuts s.now result }
-    ensures same { (t : List ℕ) → means sep.new t ≡ means sep.old t }
+    ensures same { (t : List ℕ) → S.means sep.new t ≡ S.means sep.old t }
 {
     if is_zulu(s, allow_zulu) {
         return Ok((0, 1));
@@ -163,9 +163,9 @@ pub fn timezone_offset_double_colon<S: Separator>(
     sep: &mut S,
     allow_tz_minus_sign: bool,
 ) -> Result<(i32, usize), ParseErrorKind>
-    ensures value { result ≡ double_colon_at (means sep.old) allow_tz_minus_sign s.now }
+    ensures value { result ≡ double_colon_at (S.means sep.old) allow_tz_minus_sign s.now }
     ensures cut { Cuts s.now result }
-    ensures same { (t : List ℕ) → means sep.new t ≡ means sep.old t }
+    ensures same { (t : List ℕ) → S.means sep.new t ≡ S.means sep.old t }
 {
     let (negative, hours, n) = signed_hours(s, allow_tz_minus_sign)?;
     let (minutes, m) = separated(&s[n..], sep, false)?;

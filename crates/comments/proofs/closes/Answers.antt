@@ -6,7 +6,7 @@ use Rattle.comments.specs.Comments.{closes_at}
 use Rattle.comments.proofs.Cuts.{closes_cut}
 use Rattle.comments.proofs.Machine.{from, ended}
 use Rattle.comments.proofs.closes.Goals as goal
-use Rattle.comments.proofs.closes.Goals.{in-Start-eq40, in-Next-eq41, in-Next·+in-Next-eq92, in-Next·+in-Next-eq40, in-Next·+in-Next-default, in-Next-default}
+use Rattle.comments.proofs.closes.Goals.{in-Start-eq40, in-Next-eq41, in-Next+in-Next-eq92, in-Next+in-Next-eq40, in-Next+in-Next-default, in-Next-default}
 
 pub returns-in-Next-eq1-eq41 : goal.returns-in-Next-eq1-eq41
 unfolding closes_at
@@ -22,15 +22,15 @@ loop-i-preserved c =
     elim c.match-state.branch [
       | in-Start-eq40 w ↦ grind (arith, nat_tests)
       | in-Next-eq41 w ↦ grind (arith, nat_tests)
-      | in-Next·+in-Next-eq92 w ↦ grind (arith, nat_tests)
-      | in-Next·+in-Next-eq40 w ↦ grind (arith, nat_tests)
-      | in-Next·+in-Next-default w ↦ grind (arith, nat_tests)
+      | in-Next+in-Next-eq92 w ↦ grind (arith, nat_tests)
+      | in-Next+in-Next-eq40 w ↦ grind (arith, nat_tests)
+      | in-Next+in-Next-default w ↦ grind (arith, nat_tests)
       | in-Next-default w ↦ grind (arith, nat_tests)
     ]
 
-pub returns-in-default : goal.returns-in-default
+pub returns-in_default : goal.returns-in_default
 unfolding closes_at
-returns-in-default c =
+returns-in_default c =
     let h = at_drop_more (from c.loop-i.i c.loop-i.state) c.args.s.now c.loop-i.i 0 c.loop-i-test.true in
     record { value = grind (arith, nat_tests); cut = tt }
 

@@ -18,18 +18,18 @@ step s n r i e =
     let q : r ≡ closes_at (drop (blanks_at s) s) = e ∙ ap closes_at (take_rest s n ∙ ap (λ k. drop k s) i) in
     λ j. bind (q j) (λ m. Ok (i j + m))
 
-pub returns-in-err-closes : goal.returns-in-err-closes
-returns-in-err-closes c =
+pub returns-in_err-closes : goal.returns-in_err-closes
+returns-in_err-closes c =
     let s = c.args.s.now in
-    let r = c.from-residual.result in
-    let p = err_from_is_err_and r c.from-residual.ensures.1 in
-    let h = step s c.blanks-n.result (Err _) c.blanks-n.ensures.value c.in-err-closes.ensures.value in
+    let r = c.from_residual.result in
+    let p = err_from_is_err_and r c.from_residual.ensures.1 in
+    let h = step s c.blanks-n.result (Err _) c.blanks-n.ensures.value c.in_err-closes.ensures.value in
     let v : r ≡ comment_at s = exits r (comment_at s) _ _ p.1 p.2 h in
     record { value = v; cut = cuts_mark_by s r (comment_at s) v (comment_cut s); grammar = exactly_by s r v }
 
 pub returns : goal.returns
 returns c =
     let s = c.args.s.now in
-    let v : Ok (c.blanks-n.result + c.in-ok-closes.field-0) ≡ comment_at s
-    = step s c.blanks-n.result (Ok _) c.blanks-n.ensures.value c.in-ok-closes.ensures.value in
+    let v : Ok (c.blanks-n.result + c.in_ok-closes.field-0) ≡ comment_at s
+    = step s c.blanks-n.result (Ok _) c.blanks-n.ensures.value c.in_ok-closes.ensures.value in
     record { value = v; cut = cuts_mark_by s _ (comment_at s) v (comment_cut s); grammar = exactly_by s _ v }

@@ -16,7 +16,7 @@ use Rattle.collect.specs.declared.field.Field.TheVariants.{Year}
 use Rattle.collect.proofs.Ranges.{label_field}
 use Rattle.collect.proofs.Texts.{line, whole_line, no_line, one_more, moved}
 use Rattle.collect.proofs.show.show.Goals as goal
-use Rattle.collect.proofs.show.show.Goals.{in-Some+in-ok-write, in-default}
+use Rattle.collect.proofs.show.show.Goals.{in-Some+in_ok-write, in_default}
 
 -- the texts of the first fields
 abbrev texts : Table ℤ → ℕ → List (List ℕ)
@@ -62,7 +62,7 @@ loop-field-preserved g c =
     let xs = texts t i in
     let ys = texts t (i + 1) in
     elim c.match-ask.branch [
-      | in-Some+in-ok-write w ↦
+      | in-Some+in_ok-write w ↦
           let v = w.in-Some.value in
           let s : SFits w64 v = search rules in
           let u = to_z w64 (of_z w64 v) in
@@ -70,10 +70,10 @@ loop-field-preserved g c =
           let b : c.match-ask.blank.now ≡ codes " " = ap (λ r. r.now) w.blank-is in (
             is_text c.match-ask.blank.now b,
             moved took f (codes " ") c.match-ask.blank.now w.write.new.self c.match-ask.f (xs ++ written i u ∷ []) ys b w.f-is e
-                (one_more took f c.loop-field.blank.now c.loop-field.f w.write.new.self xs (written i u) c.loop-field.invariant.1 (λ q. w.in-ok-write.ensures.shows q (refl {a = true}))),
+                (one_more took f c.loop-field.blank.now c.loop-field.f w.write.new.self xs (written i u) c.loop-field.invariant.1 (λ q. w.in_ok-write.ensures.shows q (refl {a = true}))),
           )
-      | in-default w ↦
-          let e = next_none t i c.number.result c.loop-field-test.true c.number.ensures w.in-default.ensures in
+      | in_default w ↦
+          let e = next_none t i c.number.result c.loop-field-test.true c.number.ensures w.in_default.ensures in
           let b : c.match-ask.blank.now ≡ c.loop-field.blank.now = ap (λ r. r.now) w.blank-is in
           let z = c.loop-field.invariant.0 in (
             (z.0, (z.1.0, z.1.1 ∙ sym b)),
@@ -81,19 +81,19 @@ loop-field-preserved g c =
           )
     ]
 
-pub returns-then-is-empty : goal.returns-then-is-empty
-returns-then-is-empty g c = λ p ok.
+pub returns-then-is_empty : goal.returns-then-is_empty
+returns-then-is_empty g c = λ p ok.
     let t = g.C.Collector.table c.args.c.now in
     let i = c.loop-field.field-index in
     let y = c.loop-field.invariant.1 in
     let x = y.1 p in
-    has_written_of_eq g.W.Write.write_str_gives c.args.f.now (line (texts t i) ++ codes "empty") (record_text t) c.write-str.new.self (no_line c.loop-field.blank.now (texts t i) y.0 c.if-is-empty.ensures ∙ all t i c.loop-field-test.false)
-    (has_written_append g.W.Write.write_str_gives c.args.f.now (line (texts t i)) c.loop-field.f (codes "empty") c.write-str.new.self x (c.write-str.ensures.writes x.plain ok))
+    has_written_of_eq g.W.Write.write_str_gives c.args.f.now (line (texts t i) ++ codes "empty") (record_text t) c.write_str.new.self (no_line c.loop-field.blank.now (texts t i) y.0 c.if-is_empty.ensures ∙ all t i c.loop-field-test.false)
+    (has_written_append g.W.Write.write_str_gives c.args.f.now (line (texts t i)) c.loop-field.f (codes "empty") c.write_str.new.self x (c.write_str.ensures.writes x.plain ok))
 
-pub returns-else-is-empty : goal.returns-else-is-empty
-returns-else-is-empty g c = λ p ok.
+pub returns-else-is_empty : goal.returns-else-is_empty
+returns-else-is_empty g c = λ p ok.
     let t = g.C.Collector.table c.args.c.now in
     let i = c.loop-field.field-index in
     let y = c.loop-field.invariant.1 in
-    has_written_of_eq g.W.Write.write_str_gives c.args.f.now (line (texts t i)) (record_text t) c.loop-field.f (whole_line c.loop-field.blank.now (texts t i) y.0 c.if-is-empty.ensures ∙ all t i c.loop-field-test.false)
+    has_written_of_eq g.W.Write.write_str_gives c.args.f.now (line (texts t i)) (record_text t) c.loop-field.f (whole_line c.loop-field.blank.now (texts t i) y.0 c.if-is_empty.ensures ∙ all t i c.loop-field-test.false)
     (y.1 p)

@@ -5,8 +5,8 @@ use Rattle.std.proofs.lemmas.Bool.Decides.{nat_tests}
 use Rattle.zones.proofs.Places.{hours_two, hours_few}
 use Rattle.zones.proofs.offset.hours.Goals as goal
 
-pub returns-in-default : goal.returns-in-default
-returns-in-default c = record { value = sym (hours_few c.args.s.now (omega (arith, ltb-true))); rest = tt }
+pub returns-in_default : goal.returns-in_default
+returns-in_default c = record { value = sym (hours_few c.args.s.now (omega (arith, ltb-true))); rest = tt }
 
 pub returns-in-48-to-57-48-to-57 : goal.returns-in-48-to-57-48-to-57
 returns-in-48-to-57-48-to-57 c =
@@ -17,7 +17,7 @@ returns-in-48-to-57-48-to-57 c =
     let q = ap length r in
     record { value = grind (arith, nat_tests); rest = (r, omega arith, grind (arith, nat_tests)) }
 
-pub returns-in-default-2 : goal.returns-in-default-2
-returns-in-default-2 c =
+pub returns-in_default-2 : goal.returns-in_default-2
+returns-in_default-2 c =
     let h = hours_two c.args.s.now (omega (arith, ltb-false)) in
     record { value = grind (arith, nat_tests); rest = tt }

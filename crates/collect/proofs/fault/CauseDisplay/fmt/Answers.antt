@@ -34,10 +34,10 @@ others TooLong p q = refl
 others BadFormat p q = refl
 others NotText p q = refl
 
-pub returns-in-default-of-clause-writes : goal.returns-in-default-of-clause-writes
-returns-in-default-of-clause-writes g c = λ p ok.
-    has_written_of_eq g.W.Write.write_str_gives c.args.f.now (codes "no field has this number") (cause_text c.args.self.now) c.write-in-default-of.new.self (of_none c.args.self.now c.in-Field.number c.in-Field.is c.in-default-of.ensures)
-    (c.write-in-default-of.ensures.writes p ok)
+pub returns-in_default-of-clause-writes : goal.returns-in_default-of-clause-writes
+returns-in_default-of-clause-writes g c = λ p ok.
+    has_written_of_eq g.W.Write.write_str_gives c.args.f.now (codes "no field has this number") (cause_text c.args.self.now) c.write-in_default-of.new.self (of_none c.args.self.now c.in-Field.number c.in-Field.is c.in_default-of.ensures)
+    (c.write-in_default-of.ensures.writes p ok)
 
 pub returns-in-OutOfRange-clause-writes : goal.returns-in-OutOfRange-clause-writes
 returns-in-OutOfRange-clause-writes g c = λ p ok.
@@ -49,8 +49,8 @@ returns-in-Impossible-clause-writes g c = λ p ok.
     let e = of_kind c.args.self.now c.in-Field.number c.in-Field.is c.in-Some.field Impossible (codes " holds another value") c.in-Impossible.is refl c.in-Some.ensures in
     has_written_of_eq g.W.Write.write_str_gives c.args.f.now _ (cause_text c.args.self.now) c.write-in-Impossible.new.self e (c.write-in-Impossible.ensures.writes p ok)
 
-pub returns-in-default-kind-clause-writes : goal.returns-in-default-kind-clause-writes
-returns-in-default-kind-clause-writes g c = λ p ok.
+pub returns-in_default-kind-clause-writes : goal.returns-in_default-kind-clause-writes
+returns-in_default-kind-clause-writes g c = λ p ok.
     let k = c.args.self.now.kind in
-    let e = of_kind c.args.self.now c.in-Field.number c.in-Field.is c.in-Some.field k (codes ": " ++ kind_text k) refl (others k c.in-default-kind.not-OutOfRange c.in-default-kind.not-Impossible) c.in-Some.ensures in
-    has_written_of_eq g.W.Write.write_str_gives c.args.f.now _ (cause_text c.args.self.now) c.write-in-default-kind.new.self e (c.write-in-default-kind.ensures.writes p ok)
+    let e = of_kind c.args.self.now c.in-Field.number c.in-Field.is c.in-Some.field k (codes ": " ++ kind_text k) refl (others k c.in_default-kind.not-OutOfRange c.in_default-kind.not-Impossible) c.in-Some.ensures in
+    has_written_of_eq g.W.Write.write_str_gives c.args.f.now _ (cause_text c.args.self.now) c.write-in_default-kind.new.self e (c.write-in_default-kind.ensures.writes p ok)

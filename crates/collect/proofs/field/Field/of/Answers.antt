@@ -4,8 +4,8 @@ use Rattle.collect.specs.Fields.{range}
 use Rattle.collect.proofs.Ranges.{beyond}
 use Rattle.collect.proofs.field.Field.of.Goals as goal
 
-pub returns-in-default : goal.returns-in-default
+pub returns-in_default : goal.returns-in_default
 unfolding range
-returns-in-default c =
+returns-in_default c =
     ⊎_elim (λ h. let z : c.args.number ≡ 0 = omega arith in rw z refl)
     (beyond c.args.number) (cases_lt c.args.number 22)
