@@ -70,7 +70,7 @@ loop-field-preserved g c =
           let b : c.match-ask.blank.now ≡ codes " " = ap (λ r. r.now) w.blank-is in (
             is_text c.match-ask.blank.now b,
             moved took f (codes " ") c.match-ask.blank.now w.write.new.self c.match-ask.f (xs ++ written i u ∷ []) ys b w.f-is e
-                (one_more took f c.loop-field.blank.now c.loop-field.f w.write.new.self xs (written i u) c.loop-field.invariant.1 (λ q. w.in_ok-write.ensures.shows q (refl {a = true}))),
+                (one_more took f c.loop-field.blank.now c.loop-field.f w.write.new.self xs (written i u) c.loop-field.invariant.1 (λ q. w.in_ok-write.ensures.writes q (refl {a = true}))),
           )
       | in_default w ↦
           let e = next_none t i c.number.result c.loop-field-test.true c.number.ensures w.in_default.ensures in

@@ -42,7 +42,7 @@ returns-clause-writes g c = λ p ok.
     elim c.if-item-gt0.branch [
       | then-item-gt0+in_ok-write w ↦
           both took f c.if-item-gt0.f c.write-2.new.self c.args.self.now r.0 r.1 i j r.4 (place_text i j) c.numbers-kind.ensures (placed i j w.then-item-gt0.either)
-          (has_written_to_eq took f (place_text i j) w.write.new.self c.if-item-gt0.f w.f-is (w.in_ok-write.ensures.shows p (refl {a = true}))) (λ q. c.write-2.ensures.writes q ok)
+          (has_written_to_eq took f (place_text i j) w.write.new.self c.if-item-gt0.f w.f-is (w.in_ok-write.ensures.writes p (refl {a = true}))) (λ q. c.write-2.ensures.writes q ok)
       | else-item-gt0+else-place-gt0 w ↦
           both took f c.if-item-gt0.f c.write-2.new.self c.args.self.now r.0 r.1 i j r.4 [] c.numbers-kind.ensures (unplaced i j w.if-item-gt0.false w.if-place-gt0.false)
           (has_written_to_eq took f [] f c.if-item-gt0.f w.f-is (record { wrote = writes_in_calls_nil took f.writer; plain = p })) (λ q. c.write-2.ensures.writes q ok)

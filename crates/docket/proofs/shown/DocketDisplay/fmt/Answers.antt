@@ -35,7 +35,7 @@ loop-e-preserved g c = λ p.
     let this = codes " " ++ entry_text (get_or es i (entry 0 (pos 0))) in
     let x = c.loop-e.invariant p in
     has_written_of_eq g.W.Write.write_str_gives c.write.new.self (sofar ++ this) (more_text (take (i + 1) es)) c.write-in-loop-e.new.self (next es i c.loop-e-test.true)
-    (has_written_append g.W.Write.write_str_gives c.write.new.self sofar c.loop-e.f this c.write-in-loop-e.new.self x (c.in-ok-write-2.ensures.shows x.plain (refl {a = true})))
+    (has_written_append g.W.Write.write_str_gives c.write.new.self sofar c.loop-e.f this c.write-in-loop-e.new.self x (c.in-ok-write-2.ensures.writes x.plain (refl {a = true})))
 
 pub returns-clause-writes : goal.returns-clause-writes
 returns-clause-writes g c = λ p ok.
@@ -44,6 +44,6 @@ returns-clause-writes g c = λ p ok.
     let rest = c.in-Some.rest.now in
     let i = c.loop-e.e-index in
     let e = sym c.as-slice.ensures.value ∙ c.in-Some.ensures.cases.0 in
-    let x = c.in-ok-write.ensures.shows p (refl {a = true}) in
+    let x = c.in-ok-write.ensures.writes p (refl {a = true}) in
     has_written_of_eq g.W.Write.write_str_gives c.args.f.now (entry_text first ++ more_text (take i rest)) (docket_text es) c.loop-e.f (whole es rest first i e c.loop-e-test.false)
     (has_written_append g.W.Write.write_str_gives c.args.f.now (entry_text first) c.write.new.self (more_text (take i rest)) c.loop-e.f x (c.loop-e.invariant x.plain))
