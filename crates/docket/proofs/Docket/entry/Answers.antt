@@ -12,4 +12,4 @@ picked es i None h = sym (slice_get_past es i h.3)
 picked es i (Some x) h = sym (slice_get_read es _ i x.now refl h.3.0 h.1)
 
 pub returns : goal.returns
-returns c = c.copied.ensures ∙ (picked _ c.args.place c.get.result c.get.ensures.lookup ∙ ap (λ l. slice_get l c.args.place) c.as-slice.ensures.value)
+returns c = c.copied.ensures ∙ (picked _ c.args.place c.get.result c.get.ensures.lookup ∙ ap (λ l. slice_get l c.args.place) c.as_slice.ensures.value)

@@ -11,6 +11,6 @@ none (suc n) (suc j) = none n j
 pub returns : goal.returns
 returns c = none 22
 
-pub invariant-of-result : goal.invariant-of-result
+pub invariant_of-result : goal.invariant_of-result
 unfolding all_fit
-invariant-of-result c = (refl, tt)
+invariant_of-result c = record { fitting = refl }

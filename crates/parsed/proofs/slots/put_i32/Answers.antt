@@ -8,10 +8,10 @@ use Rattle.parsed.proofs.slots.put_i32.Goals as goal
 
 pub returns-then-not-admits : goal.returns-then-not-admits
 returns-then-not-admits c =
-    out_of_range c.args.old.now c.args.field c.args.value _ c.out-of-range.result (to_z-of_z w64 c.args.value c.ranges.value) c.if-not-admits.ensures c.out-of-range.ensures
+    out_of_range c.args.old.now c.args.field c.args.value _ c.out_of_range.result (to_z-of_z w64 c.args.value c.ranges.value) c.if-not-admits.ensures c.out_of_range.ensures
 
-pub overflow-cast-value : goal.overflow-cast-value
-overflow-cast-value c =
+pub overflow_cast-value : goal.overflow_cast-value
+overflow_cast-value c =
     let b = bounds_as c.args.field Signed _ c.requires c.if-not-admits.ensures in
     grind (arith, ints)
 
@@ -19,4 +19,4 @@ pub returns : goal.returns
 returns c =
     let b = bounds_as c.args.field Signed _ c.requires c.if-not-admits.ensures in
     let e : to_z w32 (of_z w32 (to_z w64 (of_z w64 c.args.value))) ≡ c.args.value = grind (arith, ints) in
-    slotted_bits c.args.old.now _ (field_number c.args.field) c.args.value _ _ _ (to_z-of_z w64 c.args.value c.ranges.value) c.if-not-admits.ensures e c.set-if-consistent.ensures
+    slotted_bits c.args.old.now _ (field_number c.args.field) c.args.value _ _ _ (to_z-of_z w64 c.args.value c.ranges.value) c.if-not-admits.ensures e c.set_if_consistent.ensures

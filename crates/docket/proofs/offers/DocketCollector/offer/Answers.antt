@@ -28,22 +28,21 @@ returns-then-not-admits c =
     let q : fits c.args.field c.args.value ≡ false = search rules in
     outside (entries_of c.args.self.now) c.args.field c.args.value (subst (λ n. named n ≡ n) c.in-Some.ensures (named_field c.in-Some.known)) q
 
-pub push-reserved-requires : goal.push-reserved-requires
-push-reserved-requires c =
+pub push_reserved-requires : goal.push_reserved-requires
+push_reserved-requires c =
     let es = entries_of c.args.self.now in
     let n : look es c.args.field ≡ None = search rules in
     let f : fits c.args.field c.args.value ≡ true = search rules in
     omega (arith, room es c.args.field c.args.value n f c.args.self.now.distinct c.args.self.now.fitting)
 
-pub invariant-of-self : goal.invariant-of-self
-invariant-of-self c =
+pub invariant_of-self : goal.invariant_of-self
+invariant_of-self c =
     let es = entries_of c.args.self.now in
     let n : look es c.args.field ≡ None = search rules in
     let f : fits c.args.field c.args.value ≡ true = search rules in
-    let w = to_z w64 (of_z w64 c.args.value) in (
-      search rules,
-      (
-        differ es _ c.args.field c.args.value w c.push-reserved.ensures.items n c.args.self.now.distinct,
-        (fitted es _ c.args.field c.args.value w c.push-reserved.ensures.items (to_z-of_z w64 c.args.value c.ranges.value) f c.args.self.now.fitting, tt),
-      ),
-    )
+    let w = to_z w64 (of_z w64 c.args.value) in
+    record {
+      room = search rules;
+      distinct = differ es _ c.args.field c.args.value w c.push_reserved.ensures.items n c.args.self.now.distinct;
+      fitting = fitted es _ c.args.field c.args.value w c.push_reserved.ensures.items (to_z-of_z w64 c.args.value c.ranges.value) f c.args.self.now.fitting;
+    }
