@@ -5,4 +5,4 @@ use Rattle.setters.proofs.fields.set_hour12.Goals as goal
 
 pub returns-in-None : goal.returns-in-None
 returns-in-None g c =
-    by_clock g.C.Collector.offered _ _ _ c.args.value _ (to_z-of_z w64 c.args.value c.ranges.value) None c.in-None.ensures (at_once g.C.Collector.offered _ _ _ c.out-of-range.ensures)
+    by_clock g.C.Collector.offered _ _ _ c.args.value _ (to_z-of_z w64 c.args.value c.ranges.value) None c.in-None.ensures (at_once g.C.Collector.offered _ _ _ c.out_of_range.ensures)
