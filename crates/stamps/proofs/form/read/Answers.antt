@@ -28,20 +28,20 @@ unfolding read_at
 returns-in-Err c =
     record { value = asked c.args.form Zone c.args.s.now _ c.in-Zone.is (then_err _ _ c.in-Err.kind c.in-Err.ensures.value); cut = tt }
 
-pub returns-in-Ok-timezone-offset-2822 : goal.returns-in-Ok-timezone-offset-2822
+pub returns-in-Ok-timezone_offset_2822 : goal.returns-in-Ok-timezone_offset_2822
 unfolding read_at
-returns-in-Ok-timezone-offset-2822 c =
-    let f : SFits w32 c.in-Ok-timezone-offset-2822.seconds = search rules in
-    let z : to_z w32 (of_z w32 c.in-Ok-timezone-offset-2822.seconds) ≡ c.in-Ok-timezone-offset-2822.seconds = to_z-of_z w32 c.in-Ok-timezone-offset-2822.seconds f in
+returns-in-Ok-timezone_offset_2822 c =
+    let f : SFits w32 c.in-Ok-timezone_offset_2822.seconds = search rules in
+    let z : to_z w32 (of_z w32 c.in-Ok-timezone_offset_2822.seconds) ≡ c.in-Ok-timezone_offset_2822.seconds = to_z-of_z w32 c.in-Ok-timezone_offset_2822.seconds f in
     record {
-      value = asked c.args.form MailZone c.args.s.now _ c.in-MailZone.is (ap (λ x. Ok (Offset x, c.in-Ok-timezone-offset-2822.n)) z ∙ then_ok _ (λ p. Ok (Offset p.0, p.1)) (c.in-Ok-timezone-offset-2822.seconds, c.in-Ok-timezone-offset-2822.n) c.in-Ok-timezone-offset-2822.ensures.value);
-      cut = c.in-Ok-timezone-offset-2822.ensures.cut;
+      value = asked c.args.form MailZone c.args.s.now _ c.in-MailZone.is (ap (λ x. Ok (Offset x, c.in-Ok-timezone_offset_2822.n)) z ∙ then_ok _ (λ p. Ok (Offset p.0, p.1)) (c.in-Ok-timezone_offset_2822.seconds, c.in-Ok-timezone_offset_2822.n) c.in-Ok-timezone_offset_2822.ensures.value);
+      cut = c.in-Ok-timezone_offset_2822.ensures.cut;
     }
 
-pub returns-in-Err-timezone-offset-2822 : goal.returns-in-Err-timezone-offset-2822
+pub returns-in-Err-timezone_offset_2822 : goal.returns-in-Err-timezone_offset_2822
 unfolding read_at
-returns-in-Err-timezone-offset-2822 c =
-    record { value = asked c.args.form MailZone c.args.s.now _ c.in-MailZone.is (then_err _ _ c.in-Err-timezone-offset-2822.kind c.in-Err-timezone-offset-2822.ensures.value); cut = tt }
+returns-in-Err-timezone_offset_2822 c =
+    record { value = asked c.args.form MailZone c.args.s.now _ c.in-MailZone.is (then_err _ _ c.in-Err-timezone_offset_2822.kind c.in-Err-timezone_offset_2822.ensures.value); cut = tt }
 
 pub returns-in-Ok-nanosecond : goal.returns-in-Ok-nanosecond
 unfolding read_at
@@ -56,56 +56,56 @@ unfolding read_at
 returns-in-Err-nanosecond c =
     record { value = asked c.args.form Fraction c.args.s.now _ c.in-Fraction.is (then_err _ _ c.in-Err-nanosecond.kind c.in-Err-nanosecond.ensures.value); cut = tt }
 
-pub returns-in-Ok-short-or-long-month0 : goal.returns-in-Ok-short-or-long-month0
+pub returns-in-Ok-short_or_long_month0 : goal.returns-in-Ok-short_or_long_month0
 unfolding read_at
-returns-in-Ok-short-or-long-month0 c =
+returns-in-Ok-short_or_long_month0 c =
     record {
-      value = asked c.args.form Month c.args.s.now _ c.in-Month.is (then_ok _ (λ p. Ok (Month0 p.0, p.1)) (c.in-Ok-short-or-long-month0.month0, c.in-Ok-short-or-long-month0.n) c.in-Ok-short-or-long-month0.ensures.value);
-      cut = c.in-Ok-short-or-long-month0.ensures.cut;
+      value = asked c.args.form Month c.args.s.now _ c.in-Month.is (then_ok _ (λ p. Ok (Month0 p.0, p.1)) (c.in-Ok-short_or_long_month0.month0, c.in-Ok-short_or_long_month0.n) c.in-Ok-short_or_long_month0.ensures.value);
+      cut = c.in-Ok-short_or_long_month0.ensures.cut;
     }
 
-pub returns-in-Err-short-or-long-month0 : goal.returns-in-Err-short-or-long-month0
+pub returns-in-Err-short_or_long_month0 : goal.returns-in-Err-short_or_long_month0
 unfolding read_at
-returns-in-Err-short-or-long-month0 c =
-    record { value = asked c.args.form Month c.args.s.now _ c.in-Month.is (then_err _ _ c.in-Err-short-or-long-month0.kind c.in-Err-short-or-long-month0.ensures.value); cut = tt }
+returns-in-Err-short_or_long_month0 c =
+    record { value = asked c.args.form Month c.args.s.now _ c.in-Month.is (then_err _ _ c.in-Err-short_or_long_month0.kind c.in-Err-short_or_long_month0.ensures.value); cut = tt }
 
-pub returns-in-Ok-short-or-long-weekday : goal.returns-in-Ok-short-or-long-weekday
+pub returns-in-Ok-short_or_long_weekday : goal.returns-in-Ok-short_or_long_weekday
 unfolding read_at
-returns-in-Ok-short-or-long-weekday c =
+returns-in-Ok-short_or_long_weekday c =
     record {
-      value = asked c.args.form Weekday c.args.s.now _ c.in-Weekday.is (then_ok _ (λ p. Ok (Day p.0, p.1)) (c.in-Ok-short-or-long-weekday.day, c.in-Ok-short-or-long-weekday.n) c.in-Ok-short-or-long-weekday.ensures.value);
-      cut = c.in-Ok-short-or-long-weekday.ensures.cut;
+      value = asked c.args.form Weekday c.args.s.now _ c.in-Weekday.is (then_ok _ (λ p. Ok (Day p.0, p.1)) (c.in-Ok-short_or_long_weekday.day, c.in-Ok-short_or_long_weekday.n) c.in-Ok-short_or_long_weekday.ensures.value);
+      cut = c.in-Ok-short_or_long_weekday.ensures.cut;
     }
 
-pub returns-in-Err-short-or-long-weekday : goal.returns-in-Err-short-or-long-weekday
+pub returns-in-Err-short_or_long_weekday : goal.returns-in-Err-short_or_long_weekday
 unfolding read_at
-returns-in-Err-short-or-long-weekday c =
-    record { value = asked c.args.form Weekday c.args.s.now _ c.in-Weekday.is (then_err _ _ c.in-Err-short-or-long-weekday.kind c.in-Err-short-or-long-weekday.ensures.value); cut = tt }
+returns-in-Err-short_or_long_weekday c =
+    record { value = asked c.args.form Weekday c.args.s.now _ c.in-Weekday.is (then_err _ _ c.in-Err-short_or_long_weekday.kind c.in-Err-short_or_long_weekday.ensures.value); cut = tt }
 
-pub returns-in-Ok-comment-2822 : goal.returns-in-Ok-comment-2822
+pub returns-in-Ok-comment_2822 : goal.returns-in-Ok-comment_2822
 unfolding read_at
-returns-in-Ok-comment-2822 c =
+returns-in-Ok-comment_2822 c =
     record {
-      value = asked c.args.form Comment c.args.s.now _ c.in-Comment.is (then_ok _ (λ n. Ok (NoValue, n)) c.in-Ok-comment-2822.n c.in-Ok-comment-2822.ensures.value);
-      cut = c.in-Ok-comment-2822.ensures.cut;
+      value = asked c.args.form Comment c.args.s.now _ c.in-Comment.is (then_ok _ (λ n. Ok (NoValue, n)) c.in-Ok-comment_2822.n c.in-Ok-comment_2822.ensures.value);
+      cut = c.in-Ok-comment_2822.ensures.cut;
     }
 
-pub returns-in-Err-comment-2822 : goal.returns-in-Err-comment-2822
+pub returns-in-Err-comment_2822 : goal.returns-in-Err-comment_2822
 unfolding read_at
-returns-in-Err-comment-2822 c =
-    record { value = asked c.args.form Comment c.args.s.now _ c.in-Comment.is (then_err _ _ c.in-Err-comment-2822.kind c.in-Err-comment-2822.ensures.value); cut = tt }
+returns-in-Err-comment_2822 c =
+    record { value = asked c.args.form Comment c.args.s.now _ c.in-Comment.is (then_err _ _ c.in-Err-comment_2822.kind c.in-Err-comment_2822.ensures.value); cut = tt }
 
-pub returns-in-Ok-year-2822 : goal.returns-in-Ok-year-2822
+pub returns-in-Ok-year_2822 : goal.returns-in-Ok-year_2822
 unfolding read_at
-returns-in-Ok-year-2822 c =
-    let f : SFits w64 c.in-Ok-year-2822.year = search rules in
-    let z : to_z w64 (of_z w64 c.in-Ok-year-2822.year) ≡ c.in-Ok-year-2822.year = to_z-of_z w64 c.in-Ok-year-2822.year f in
+returns-in-Ok-year_2822 c =
+    let f : SFits w64 c.in-Ok-year_2822.year = search rules in
+    let z : to_z w64 (of_z w64 c.in-Ok-year_2822.year) ≡ c.in-Ok-year_2822.year = to_z-of_z w64 c.in-Ok-year_2822.year f in
     record {
-      value = asked c.args.form MailYear c.args.s.now _ c.in-MailYear.is (ap (λ x. Ok (Year x, c.in-Ok-year-2822.n)) z ∙ then_ok _ (λ p. Ok (Year p.0, p.1)) (c.in-Ok-year-2822.year, c.in-Ok-year-2822.n) c.in-Ok-year-2822.ensures.value);
-      cut = c.in-Ok-year-2822.ensures.cut;
+      value = asked c.args.form MailYear c.args.s.now _ c.in-MailYear.is (ap (λ x. Ok (Year x, c.in-Ok-year_2822.n)) z ∙ then_ok _ (λ p. Ok (Year p.0, p.1)) (c.in-Ok-year_2822.year, c.in-Ok-year_2822.n) c.in-Ok-year_2822.ensures.value);
+      cut = c.in-Ok-year_2822.ensures.cut;
     }
 
-pub returns-in-Err-year-2822 : goal.returns-in-Err-year-2822
+pub returns-in-Err-year_2822 : goal.returns-in-Err-year_2822
 unfolding read_at
-returns-in-Err-year-2822 c =
-    record { value = asked c.args.form MailYear c.args.s.now _ c.in-MailYear.is (then_err _ _ c.in-Err-year-2822.kind c.in-Err-year-2822.ensures.value); cut = tt }
+returns-in-Err-year_2822 c =
+    record { value = asked c.args.form MailYear c.args.s.now _ c.in-MailYear.is (then_err _ _ c.in-Err-year_2822.kind c.in-Err-year_2822.ensures.value); cut = tt }
