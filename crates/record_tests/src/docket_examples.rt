@@ -7,10 +7,10 @@ use std::test::*;
 #[test]
 fn in_order(rt: HostRuntime) -> Result<(), Fail> {
     let mut pair = Pair::new(rt.alloc())?;
-    assert_eq!(rt; pair.set(Setter::Second, 60)?, None);
-    assert_eq!(rt; pair.set(Setter::Year, 2026)?, None);
-    assert_eq!(rt; pair.set(Setter::Second, 60)?, None);
-    assert_eq!(rt; pair.set(Setter::Year, 2027)?, Some((2, 4, 0, 0, 1)));
+    assert_eq!(rt; pair.set(&rt, Setter::Second, 60)?, None);
+    assert_eq!(rt; pair.set(&rt, Setter::Year, 2026)?, None);
+    assert_eq!(rt; pair.set(&rt, Setter::Second, 60)?, None);
+    assert_eq!(rt; pair.set(&rt, Setter::Year, 2027)?, Some((2, 4, 0, 0, 1)));
     assert_eq!(rt; pair.docket.len(), 2);
     assert_eq!(rt;
         pair.docket.entry(0),
@@ -38,11 +38,11 @@ fn full(rt: HostRuntime) -> Result<(), Fail> {
     for setter in Setter::ALL {
         match setter {
             Setter::Ampm | Setter::Hour12 => {}
-            _ => assert_eq!(rt; pair.set(setter, 1)?, None),
+            _ => assert_eq!(rt; pair.set(&rt, setter, 1)?, None),
         }
     }
     assert_eq!(rt; pair.docket.len(), 21);
-    assert_eq!(rt; pair.ask(15)?, Some(0));
-    assert_eq!(rt; pair.ask(16)?, Some(1));
+    assert_eq!(rt; pair.ask(&rt, 15)?, Some(0));
+    assert_eq!(rt; pair.ask(&rt, 16)?, Some(1));
     Ok(())
 }

@@ -36,7 +36,7 @@ const EDGES: [(Setter, i64, i64, u8); 21] = [
 
 fn taken(rt: &impl Abort, heap: Global, setter: Setter, value: i64) -> Result<(), Fail> {
     let mut pair = Pair::new(heap)?;
-    assert_eq!(rt; pair.set(setter, value)?, None);
+    assert_eq!(rt; pair.set(rt, setter, value)?, None);
     Ok(())
 }
 
@@ -48,7 +48,7 @@ fn beyond(
     field: u8,
 ) -> Result<(), Fail> {
     let mut pair = Pair::new(heap)?;
-    assert_eq!(rt; pair.set(setter, value)?, Some((1, 4, 0, 0, field)));
+    assert_eq!(rt; pair.set(rt, setter, value)?, Some((1, 4, 0, 0, field)));
     assert!(rt; pair.docket.is_empty());
     Ok(())
 }
@@ -84,12 +84,12 @@ fn timestamps(rt: HostRuntime) -> Result<(), Fail> {
 fn conflicts(rt: HostRuntime) -> Result<(), Fail> {
     for (setter, low, high, _) in EDGES {
         let mut pair = Pair::new(rt.alloc())?;
-        assert_eq!(rt; pair.set(setter, high)?, None);
-        let Some((kind, layer, item, place, _)) = pair.set(setter, low)? else {
+        assert_eq!(rt; pair.set(&rt, setter, high)?, None);
+        let Some((kind, layer, item, place, _)) = pair.set(&rt, setter, low)? else {
             return Err(Fail::new("taken twice"));
         };
         assert_eq!(rt; (kind, layer, item, place), (2, 4, 0, 0));
-        assert_eq!(rt; pair.set(setter, high)?, None);
+        assert_eq!(rt; pair.set(&rt, setter, high)?, None);
     }
     Ok(())
 }

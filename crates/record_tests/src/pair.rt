@@ -7,6 +7,7 @@ use parsed::Parsed;
 use setters::choice::set;
 use setters::setter::Setter;
 use std::alloc::Global;
+use std::process::Abort;
 use std::test::*;
 
 #[derive(Drop)]
@@ -26,13 +27,14 @@ impl Pair {
     // What both answer, with the numbers of a refusal.
     pub(crate) fn set(
         &mut self,
+        rt: &impl Abort,
         setter: Setter,
         value: i64,
     ) -> Result<Option<(u8, u8, usize, usize, u8)>, Fail> {
         let answer = set(&mut self.parsed, setter, value);
         let other = set(&mut self.docket, setter, value);
-        assert_eq!(answer, other);
-        assert!(equal(&self.parsed, &self.docket));
+        assert_eq!(rt; answer, other);
+        assert!(rt; equal(&self.parsed, &self.docket));
         match answer {
             Ok(()) => Ok(None),
             Err(fault) => Ok(Some(fault.numbers())),
@@ -40,9 +42,9 @@ impl Pair {
     }
 
     // What both hold.
-    pub(crate) fn ask(&self, field: u8) -> Result<Option<i64>, Fail> {
+    pub(crate) fn ask(&self, rt: &impl Abort, field: u8) -> Result<Option<i64>, Fail> {
         let held = self.parsed.ask(field);
-        assert_eq!(held, self.docket.ask(field));
+        assert_eq!(rt; held, self.docket.ask(field));
         Ok(held)
     }
 }

@@ -11,27 +11,27 @@ use std::test::*;
 #[test]
 fn month_thirteen(rt: HostRuntime) -> Result<(), Fail> {
     let mut pair = Pair::new(rt.alloc())?;
-    assert_eq!(rt; pair.set(Setter::Month, 13)?, Some((1, 4, 0, 0, 8)));
-    assert_eq!(rt; pair.ask(8)?, None);
+    assert_eq!(rt; pair.set(&rt, Setter::Month, 13)?, Some((1, 4, 0, 0, 8)));
+    assert_eq!(rt; pair.ask(&rt, 8)?, None);
     Ok(())
 }
 
 #[test]
 fn month_five_then_six(rt: HostRuntime) -> Result<(), Fail> {
     let mut pair = Pair::new(rt.alloc())?;
-    assert_eq!(rt; pair.set(Setter::Month, 5)?, None);
-    assert_eq!(rt; pair.set(Setter::Month, 6)?, Some((2, 4, 0, 0, 8)));
-    assert_eq!(rt; pair.ask(8)?, Some(5));
+    assert_eq!(rt; pair.set(&rt, Setter::Month, 5)?, None);
+    assert_eq!(rt; pair.set(&rt, Setter::Month, 6)?, Some((2, 4, 0, 0, 8)));
+    assert_eq!(rt; pair.ask(&rt, 8)?, Some(5));
     Ok(())
 }
 
 #[test]
 fn hour_thirteen_onto_five(rt: HostRuntime) -> Result<(), Fail> {
     let mut pair = Pair::new(rt.alloc())?;
-    assert_eq!(rt; pair.set(Setter::Hour12, 5)?, None);
-    assert_eq!(rt; pair.set(Setter::Hour, 13)?, Some((2, 4, 0, 0, 16)));
-    assert_eq!(rt; pair.ask(15)?, Some(1));
-    assert_eq!(rt; pair.ask(16)?, Some(5));
+    assert_eq!(rt; pair.set(&rt, Setter::Hour12, 5)?, None);
+    assert_eq!(rt; pair.set(&rt, Setter::Hour, 13)?, Some((2, 4, 0, 0, 16)));
+    assert_eq!(rt; pair.ask(&rt, 15)?, Some(1));
+    assert_eq!(rt; pair.ask(&rt, 16)?, Some(5));
     Ok(())
 }
 

@@ -4,30 +4,30 @@ use Rattle.stamps.specs.Fields.{words}
 use Rattle.stamps.proofs.Spelt.{from_reads, look_up, same, spelt}
 use Rattle.stamps.proofs.form.form_of.Goals as goal
 
-pub returns-in-122 : goal.returns-in-122
+pub returns-in-zone : goal.returns-in-zone
 unfolding look_up same
-returns-in-122 c = spelt words (codes "zone") c.args.word.now (Some Zone) (from_reads (codes "zone") c.args.word.now (search rules) (search rules)) refl
+returns-in-zone c = spelt words (codes "zone") c.args.word.now (Some Zone) (from_reads (codes "zone") c.args.word.now (search rules) (search rules)) refl
 
-pub returns-in-109 : goal.returns-in-109
+pub returns-in-mailzone : goal.returns-in-mailzone
 unfolding look_up same
-returns-in-109 c = spelt words (codes "mailzone") c.args.word.now (Some MailZone) (from_reads (codes "mailzone") c.args.word.now (search rules) (search rules)) refl
+returns-in-mailzone c = spelt words (codes "mailzone") c.args.word.now (Some MailZone) (from_reads (codes "mailzone") c.args.word.now (search rules) (search rules)) refl
 
-pub returns-in-102 : goal.returns-in-102
+pub returns-in-fraction : goal.returns-in-fraction
 unfolding look_up same
-returns-in-102 c = spelt words (codes "fraction") c.args.word.now (Some Fraction) (from_reads (codes "fraction") c.args.word.now (search rules) (search rules)) refl
+returns-in-fraction c = spelt words (codes "fraction") c.args.word.now (Some Fraction) (from_reads (codes "fraction") c.args.word.now (search rules) (search rules)) refl
 
-pub returns-in-109-2 : goal.returns-in-109-2
+pub returns-in-month : goal.returns-in-month
 unfolding look_up same
-returns-in-109-2 c = spelt words (codes "month") c.args.word.now (Some Month) (from_reads (codes "month") c.args.word.now (search rules) (search rules)) refl
+returns-in-month c = spelt words (codes "month") c.args.word.now (Some Month) (from_reads (codes "month") c.args.word.now (search rules) (search rules)) refl
 
-pub returns-in-119 : goal.returns-in-119
+pub returns-in-weekday : goal.returns-in-weekday
 unfolding look_up same
-returns-in-119 c = spelt words (codes "weekday") c.args.word.now (Some Weekday) (from_reads (codes "weekday") c.args.word.now (search rules) (search rules)) refl
+returns-in-weekday c = spelt words (codes "weekday") c.args.word.now (Some Weekday) (from_reads (codes "weekday") c.args.word.now (search rules) (search rules)) refl
 
-pub returns-in-99 : goal.returns-in-99
+pub returns-in-comment : goal.returns-in-comment
 unfolding look_up same
-returns-in-99 c = spelt words (codes "comment") c.args.word.now (Some Comment) (from_reads (codes "comment") c.args.word.now (search rules) (search rules)) refl
+returns-in-comment c = spelt words (codes "comment") c.args.word.now (Some Comment) (from_reads (codes "comment") c.args.word.now (search rules) (search rules)) refl
 
-pub returns-in-109-3 : goal.returns-in-109-3
+pub returns-in-mailyear : goal.returns-in-mailyear
 unfolding look_up same
-returns-in-109-3 c = spelt words (codes "mailyear") c.args.word.now (Some MailYear) (from_reads (codes "mailyear") c.args.word.now (search rules) (search rules)) refl
+returns-in-mailyear c = spelt words (codes "mailyear") c.args.word.now (Some MailYear) (from_reads (codes "mailyear") c.args.word.now (search rules) (search rules)) refl

@@ -4,14 +4,14 @@ use Rattle.stamps.specs.Commands.{verbs}
 use Rattle.stamps.proofs.Spelt.{from_reads, look_up, same, stands}
 use Rattle.stamps.proofs.record.verb_of.Goals as goal
 
-pub returns-in-115 : goal.returns-in-115
+pub returns-in-set : goal.returns-in-set
 unfolding look_up same
-returns-in-115 c = stands verbs (codes "set") c.args.word.now (Some Set) (from_reads (codes "set") c.args.word.now (search rules) (search rules)) refl
+returns-in-set c = stands verbs (codes "set") c.args.word.now (Some Set) (from_reads (codes "set") c.args.word.now (search rules) (search rules)) refl
 
-pub returns-in-115-2 : goal.returns-in-115-2
+pub returns-in-show : goal.returns-in-show
 unfolding look_up same
-returns-in-115-2 c = stands verbs (codes "show") c.args.word.now (Some Show) (from_reads (codes "show") c.args.word.now (search rules) (search rules)) refl
+returns-in-show c = stands verbs (codes "show") c.args.word.now (Some Show) (from_reads (codes "show") c.args.word.now (search rules) (search rules)) refl
 
-pub returns-in-110 : goal.returns-in-110
+pub returns-in-new : goal.returns-in-new
 unfolding look_up same
-returns-in-110 c = stands verbs (codes "new") c.args.word.now (Some New) (from_reads (codes "new") c.args.word.now (search rules) (search rules)) refl
+returns-in-new c = stands verbs (codes "new") c.args.word.now (Some New) (from_reads (codes "new") c.args.word.now (search rules) (search rules)) refl
