@@ -1,7 +1,7 @@
 -- How a collector is fed one reading after another.
-use Rattle.std.proofs.Common.{◌≡◌, ℕ, Bool, true, false, cond, ◌⊎◌, List, [], ◌∷◌, ◌++◌, ℤ, Some, None, Option, sym, refl, ap, ◌∙◌, subst, inl, inr, arith}
+use Rattle.std.proofs.Common.{◌≡◌, ℕ, Bool, true, false, cond, List, [], ◌∷◌, ◌++◌, ℤ, Some, None, Option, refl, ap, ◌∙◌, inl, inr, arith}
 use Rattle.collect.specs.Fields.{fits, named}
-use Rattle.collect.specs.Tables.{Table, put, single, met}
+use Rattle.collect.specs.Tables.{Table, single, met}
 use Rattle.collect.specs.Readings.{Offer, Ending, granted, fault}
 use Rattle.collect.specs.Judge.{Verdict, taken, refused, by_join, judge, with_joined, kept}
 use Rattle.collect.specs.Chain.{Offering, Fed, all, one, stop, granted_in, Outcome, by_verdict, fed, Parted, ChainLaws}

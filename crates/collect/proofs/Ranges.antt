@@ -2,7 +2,7 @@
 use Rattle.std.proofs.Common.{◌≡◌, ℕ, ◌-◌, ◌<◌, ◌≤◌, Bool, true, false, get_or, ℤ, is_some, Some, None, decimal, Option, sym, refl, ap, ◌∙◌, ⊎_elim, arith}
 use Rattle.std.proofs.lemmas.List.{get_or_past}
 use Rattle.std.proofs.lemmas.Bool.{both_ways, cases_lt, cond-true}
-use Rattle.collect.specs.Fields.{field_number, field_name, range, ranges, within, fits, named}
+use Rattle.collect.specs.Fields.{field_number, field_name, range, ranges, within, named}
 use Rattle.collect.specs.Shown.{fields, label}
 use Rattle.collect.specs.Tables.{Table}
 use Rattle.collect.specs.Judge.{Ranged}

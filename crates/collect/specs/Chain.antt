@@ -1,5 +1,5 @@
 -- A collector, or a plain table, that is fed what a call offers.
-use Rattle.std.specs.Prelude.{◌≡◌, ℕ, ◌⊎◌, List, [], ◌∷◌, ◌++◌, ℤ, Some, None, Option}
+use Rattle.std.specs.Prelude.{◌≡◌, ℕ, ◌⊎◌, List, [], ◌∷◌, ◌++◌, ℤ, None, Option}
 use Rattle.collect.specs.Tables.{Table}
 use Rattle.collect.specs.Readings.{Offer, Ending, granted, fault, Reading}
 use Rattle.collect.specs.Judge.{Verdict, taken, refused, judge, kept}

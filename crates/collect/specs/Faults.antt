@@ -1,5 +1,5 @@
 -- The numbers of the code's answers.
-use Rattle.std.specs.Prelude.{ℕ, Some, None, Ok, Err, Option, Result}
+use Rattle.std.specs.Prelude.{ℕ, None, Ok, Err, Option, Result}
 use Rattle.scan.specs.Kinds.{kind_number}
 use Rattle.collect.specs.Readings.{Ending, granted, fault}
 use Rattle.collect.specs.Judge.{Verdict, taken, refused}

@@ -1,5 +1,5 @@
 -- What becomes of an offer.
-use Rattle.std.specs.Prelude.{◌≡◌, ℕ, Bool, true, cond, ℤ, Some, None, Option}
+use Rattle.std.specs.Prelude.{◌≡◌, ℕ, true, cond, ℤ, Some, None, Option}
 use Rattle.collect.specs.Fields.{fits, named}
 use Rattle.collect.specs.Tables.{Table, put, single, met}
 

@@ -1,5 +1,5 @@
 -- One field of a record, by what it held and what it is offered.
-use Rattle.std.proofs.Common.{◌≡◌, ℕ, Bool, true, false, cond, ℤ, pos, nat_abs, Some, None, Option, sym, refl, ap, ◌∙◌, subst, arith}
+use Rattle.std.proofs.Common.{◌≡◌, ℕ, true, false, cond, ℤ, pos, nat_abs, Some, None, Option, sym, refl, ap, ◌∙◌, subst, arith}
 use Rattle.std.proofs.lemmas.Int.{ints}
 use Rattle.std.specs.Option.{option_map}
 use Rattle.scan.specs.Kinds.{kind_number}
@@ -13,7 +13,7 @@ use Rattle.collect.specs.Faults.{layer_number, field_named}
 use Rattle.collect.specs.declared.fault.Cause.{Cause}
 use Rattle.collect.specs.declared.field.Field.{Field}
 use Rattle.collect.proofs.Ranges.{named_field}
-use Rattle.parsed.specs.Put.{Free, Clash, Put}
+use Rattle.parsed.specs.Put.{Put}
 use Rattle.parsed.specs.Slots.{Slotted, joined_or, outside}
 
 -- what a refusal says

@@ -4,7 +4,7 @@ use Rattle.std.proofs.Common.{⊎_elim, sym, ap, ◌∙◌, subst, zero-add, add
 use Rattle.std.proofs.lemmas.List.{get_or-set_same, get_or-set_other}
 use Rattle.std.proofs.lemmas.Bool.{and_parts, and_from, cases_eq, cond_both, eqb-true, eq-eqb, ne_eqb}
 use Rattle.collect.specs.Fields.{fits}
-use Rattle.collect.specs.Tables.{Table, put, single, met}
+use Rattle.collect.specs.Tables.{Table, single, met}
 use Rattle.collect.specs.Judge.{Verdict, with_joined, kept, Ranged, Offered}
 use Rattle.parsed.specs.Slots.{held, all_fit, joined_or, Slotted}
 

@@ -1,5 +1,5 @@
 -- What a record holds.
-use Rattle.std.specs.Prelude.{ℕ, List, [], ◌∷◌, ℤ, Some, None, Option, slice_index_or}
+use Rattle.std.specs.Prelude.{List, [], ◌∷◌, ℤ, None, Option, slice_index_or}
 use Rattle.collect.specs.Tables.{Table}
 use Rattle.parsed.specs.Slots.{counts, days}
 use Rattle.parsed.specs.declared.Parsed.{Parsed}

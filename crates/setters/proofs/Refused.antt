@@ -1,5 +1,5 @@
 -- What a refused setter leaves.
-use Rattle.std.proofs.Common.{◌≡◌, ℕ, ◌/◌, ◌%◌, Bool, true, false, cond, ltb, ◌⊎◌, List, [], ◌∷◌, ℤ, pos, negsuc, Some, None, Option, sym, refl, ap, ◌∙◌, subst, inl, inr, arith}
+use Rattle.std.proofs.Common.{◌≡◌, ℕ, ◌/◌, ◌%◌, Bool, true, false, cond, ltb, ◌⊎◌, [], ◌∷◌, ℤ, pos, negsuc, Some, None, Option, refl, ◌∙◌, inl, inr, arith}
 use Rattle.collect.specs.Fields.{field_number, fits, named}
 use Rattle.collect.specs.Tables.{Table, single, met}
 use Rattle.collect.specs.Readings.{Offer, Ending, granted, fault}
@@ -9,7 +9,7 @@ use Rattle.collect.specs.declared.field.Field.{Field}
 use Rattle.collect.specs.declared.field.Field.TheVariants as field
 use Rattle.collect.proofs.Chains.{left_alone}
 use Rattle.collect.proofs.Ranges.{named_field}
-use Rattle.setters.specs.Setters.{halves_of, hour_tries, clock_hour, hour12_tries, tries}
+use Rattle.setters.specs.Setters.{hour_tries, clock_hour, hour12_tries, tries}
 use Rattle.setters.specs.Laws.{SetterLaws}
 use Rattle.setters.specs.declared.setter.Setter.{Setter}
 use Rattle.setters.specs.declared.setter.Setter.TheVariants.{Year, YearDiv100, YearMod100, Isoyear, IsoyearDiv100, IsoyearMod100, Quarter, Month, WeekFromSun, WeekFromMon, Isoweek, Weekday, Ordinal, Day, Ampm, Hour12, Hour, Minute, Second, Nanosecond, Timestamp, Offset}

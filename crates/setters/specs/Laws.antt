@@ -1,7 +1,7 @@
 -- What the setters do to a collector, and to an empty table.
 use Rattle.std.specs.Prelude.{◌≡◌, ℕ, ◌/◌, ◌⊎◌, ℤ, pos, Some, None, ◌≢◌}
 use Rattle.collect.specs.Tables.{Table, empty}
-use Rattle.collect.specs.Readings.{Ending, granted, fault}
+use Rattle.collect.specs.Readings.{granted, fault}
 use Rattle.collect.specs.Judge.{kept}
 use Rattle.collect.specs.Chain.{Offering, Takes, called}
 use Rattle.setters.specs.Setters.{tries}

@@ -1,7 +1,7 @@
 -- What the setters offer, and how they end.
-use Rattle.std.specs.Prelude.{ℕ, ◌/◌, ◌%◌, cond, ◌&&◌, List, [], ◌∷◌, ℤ, pos, negsuc, Some, None, Option, ◌==◌, nat_le, nat_lt}
+use Rattle.std.specs.Prelude.{◌/◌, ◌%◌, cond, ◌&&◌, [], ◌∷◌, ℤ, pos, negsuc, Some, None, Option, ◌==◌, nat_le, nat_lt}
 use Rattle.collect.specs.Fields.{field_number}
-use Rattle.collect.specs.Readings.{Offer, Ending, granted, fault, Reading}
+use Rattle.collect.specs.Readings.{Offer, granted, fault, Reading}
 use Rattle.collect.specs.declared.field.Field.{Field}
 use Rattle.collect.specs.declared.field.Field.TheVariants as field
 use Rattle.setters.specs.declared.setter.Setter.{Setter}

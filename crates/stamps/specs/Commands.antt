@@ -1,5 +1,5 @@
 -- What the lines about the record do to it.
-use Rattle.std.specs.Prelude.{◌≡◌, ℕ, List, [], ◌∷◌, Some, None, Ok, Err, codes, Option, Result, ◌≢◌}
+use Rattle.std.specs.Prelude.{◌≡◌, ℕ, List, [], ◌∷◌, Some, None, Ok, codes, Option, Result, ◌≢◌}
 use Rattle.collect.specs.Chain.{Takes}
 use Rattle.collect.specs.Faults.{told, nowhere}
 use Rattle.collect.specs.Judge.{Offered}

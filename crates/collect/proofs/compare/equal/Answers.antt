@@ -1,4 +1,4 @@
-use Rattle.std.proofs.Common.{◌<◌, refl, arith}
+use Rattle.std.proofs.Common.{refl, arith}
 use Rattle.collect.proofs.Ranges.{same_tables}
 use Rattle.collect.proofs.compare.equal.Goals as goal
 

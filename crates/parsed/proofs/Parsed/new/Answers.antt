@@ -1,6 +1,5 @@
 use Rattle.std.proofs.Common.{◌≡◌, ℕ, zero, suc, get_or, replicate, ℤ, None, Option, refl}
 use Rattle.parsed.specs.Slots.{all_fit}
-use Rattle.parsed.specs.Records.{parsed_table}
 use Rattle.parsed.proofs.Parsed.new.Goals as goal
 
 none : (n j : ℕ) → get_or {A = Option ℤ} (replicate n None) j None ≡ None

@@ -1,5 +1,5 @@
 -- What is written of a refusal, by its layer and its kind.
-use Rattle.std.proofs.Common.{◌≡◌, ℕ, List, ◌++◌, Some, None, codes, sym, refl, ap, ◌∙◌}
+use Rattle.std.proofs.Common.{◌≡◌, ℕ, List, ◌++◌, None, codes, sym, refl, ap, ◌∙◌}
 use Rattle.std.proofs.Output.{has_written_of_eq}
 use Rattle.scan.specs.Kinds.{kind_text}
 use Rattle.scan.specs.declared.kind.ParseErrorKind.{ParseErrorKind}

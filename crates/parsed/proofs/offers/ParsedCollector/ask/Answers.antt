@@ -1,7 +1,7 @@
-use Rattle.std.proofs.Common.{◌≡◌, get_or, None, sym, refl, ap, ◌∙◌}
+use Rattle.std.proofs.Common.{get_or, None, sym, refl, ap, ◌∙◌}
 use Rattle.collect.specs.Fields.{field_number}
 use Rattle.collect.proofs.Ranges.{nothing}
-use Rattle.parsed.specs.Records.{fields_of, parsed_table}
+use Rattle.parsed.specs.Records.{fields_of}
 use Rattle.parsed.specs.Placing.{asked, fit_ranged}
 use Rattle.parsed.proofs.offers.ParsedCollector.ask.Goals as goal
 

@@ -1,7 +1,7 @@
-use Rattle.std.proofs.Common.{◌≡◌, sym, ap, ◌∙◌, lit<, w64}
+use Rattle.std.proofs.Common.{sym, ap, ◌∙◌, lit<, w64}
 use Rattle.std.proofs.lemmas.Int.{to_z-of_z}
 use Rattle.collect.specs.Fields.{field_number}
-use Rattle.parsed.specs.Records.{fields_of, parsed_table}
+use Rattle.parsed.specs.Records.{fields_of}
 use Rattle.parsed.specs.Placing.{fit_placed, placed_bits}
 use Rattle.parsed.proofs.offers.ParsedCollector.offer.Goals as goal
 
