@@ -3,6 +3,8 @@
 
 mod form;
 mod line;
+#[cfg(test)]
+mod log_examples;
 mod record;
 
 use line::Line;
@@ -32,6 +34,25 @@ the refusal, if there is one: its name and number, why, and the five numbers of 
 A refused line does not stop the program.
 ";
 
+// Answers a line: what its field means, what the record holds after it, or why it is refused.
+fn answer<W: Write>(out: &mut W, record: &mut Parsed, number: u64, bytes: &[u8]) -> io::Result<()> {
+    match line::read_line(bytes) {
+        Ok(Line::Field(field)) => writeln!(out, "{number}: {field}"),
+        Ok(Line::Record(command)) => match obey(record, command) {
+            Ok(()) => writeln!(out, "{number}: record {record}"),
+            Err(fault) => {
+                let kind = fault.cause.kind;
+                let code = kind.number();
+                writeln!(
+                    out,
+                    "{number}: refused {kind:?} ({code}): {command}, {fault}; record {record}"
+                )
+            }
+        },
+        Err(refusal) => writeln!(out, "{number}: {refusal}"),
+    }
+}
+
 fn main(rt: HostRuntime) -> io::Result<()> {
     let heap = rt.alloc();
     if env::args(&rt)?.count() > 1 {
@@ -43,21 +64,7 @@ fn main(rt: HostRuntime) -> io::Result<()> {
     for bytes in BufReader::new(heap, rt.stdin())?.split(heap, b'\n') {
         let bytes = bytes?;
         number = number.saturating_add(1);
-        match line::read_line(&bytes) {
-            Ok(Line::Field(field)) => writeln!(out, "{number}: {field}")?,
-            Ok(Line::Record(command)) => match obey(&mut record, command) {
-                Ok(()) => writeln!(out, "{number}: record {record}")?,
-                Err(fault) => {
-                    let kind = fault.cause.kind;
-                    let code = kind.number();
-                    writeln!(
-                        out,
-                        "{number}: refused {kind:?} ({code}): {command}, {fault}; record {record}"
-                    )?
-                }
-            },
-            Err(refusal) => writeln!(out, "{number}: {refusal}")?,
-        }
+        answer(&mut out, &mut record, number, &bytes)?;
     }
     out.flush()
 }
