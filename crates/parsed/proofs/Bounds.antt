@@ -4,14 +4,14 @@ use Rattle.std.proofs.lemmas.Int.{ints}
 use Rattle.collect.specs.Fields.{field_number, range, fits}
 use Rattle.collect.specs.declared.field.Field.{Field}
 use Rattle.collect.specs.declared.field.Field.TheVariants.{Year, YearDiv100, YearMod100, Isoyear, IsoyearDiv100, IsoyearMod100, Quarter, Month, WeekFromSun, WeekFromMon, Isoweek, Weekday, Ordinal, Day, HourDiv12, HourMod12, Minute, Second, Nanosecond, Timestamp, Offset}
-use Rattle.parsed.specs.Slots.{KeptAs, Signed, Counted, Wide, ADay, kept_as}
+use Rattle.parsed.specs.Slots.{KeptAs, signed, counted, wide, a_day, kept_as}
 
 -- between two bounds
 abbrev pub Bounds : KeptAs → ℤ → Type 0
-Bounds Signed v = (negsuc 2147483647 ≤ℤ v) × (v ≤ℤ pos 2147483647)
-Bounds Counted v = (pos 0 ≤ℤ v) × (v ≤ℤ pos 4294967295)
-Bounds Wide v = Unit {0}
-Bounds ADay v = (pos 0 ≤ℤ v) × (v ≤ℤ pos 6)
+Bounds signed v = (negsuc 2147483647 ≤ℤ v) × (v ≤ℤ pos 2147483647)
+Bounds counted v = (pos 0 ≤ℤ v) × (v ≤ℤ pos 4294967295)
+Bounds wide v = Unit {0}
+Bounds a_day v = (pos 0 ≤ℤ v) × (v ≤ℤ pos 6)
 
 pub bounds : (x : Field) (v : ℤ) → fits (field_number x) v ≡ true → Bounds (kept_as x) v
 unfolding range

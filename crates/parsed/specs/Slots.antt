@@ -44,30 +44,30 @@ outside f = record { kind = OutOfRange; layer = layer.Field f }
 
 -- the types that `Parsed` keeps values in: i32, u32, i64 and Weekday
 pub data KeptAs : Type 0 where
-  Signed : KeptAs
-  Counted : KeptAs
-  Wide : KeptAs
-  ADay : KeptAs
+  signed : KeptAs
+  counted : KeptAs
+  wide : KeptAs
+  a_day : KeptAs
 
 abbrev pub kept_as : Field → KeptAs
-kept_as Year = Signed
-kept_as YearDiv100 = Signed
-kept_as YearMod100 = Signed
-kept_as Isoyear = Signed
-kept_as IsoyearDiv100 = Signed
-kept_as IsoyearMod100 = Signed
-kept_as Quarter = Counted
-kept_as Month = Counted
-kept_as WeekFromSun = Counted
-kept_as WeekFromMon = Counted
-kept_as Isoweek = Counted
-kept_as Weekday = ADay
-kept_as Ordinal = Counted
-kept_as Day = Counted
-kept_as HourDiv12 = Counted
-kept_as HourMod12 = Counted
-kept_as Minute = Counted
-kept_as Second = Counted
-kept_as Nanosecond = Counted
-kept_as Timestamp = Wide
-kept_as Offset = Signed
+kept_as Year = signed
+kept_as YearDiv100 = signed
+kept_as YearMod100 = signed
+kept_as Isoyear = signed
+kept_as IsoyearDiv100 = signed
+kept_as IsoyearMod100 = signed
+kept_as Quarter = counted
+kept_as Month = counted
+kept_as WeekFromSun = counted
+kept_as WeekFromMon = counted
+kept_as Isoweek = counted
+kept_as Weekday = a_day
+kept_as Ordinal = counted
+kept_as Day = counted
+kept_as HourDiv12 = counted
+kept_as HourMod12 = counted
+kept_as Minute = counted
+kept_as Second = counted
+kept_as Nanosecond = counted
+kept_as Timestamp = wide
+kept_as Offset = signed

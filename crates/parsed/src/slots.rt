@@ -4,7 +4,7 @@ ghost use Rattle.std.specs.Option.{option_map};
 ghost use Rattle.names.specs.Days.{day_number};
 ghost use Rattle.collect.specs.Faults.{verdict};
 ghost use Rattle.collect.specs.Fields.{field_number};
-ghost use Rattle.parsed.specs.Slots.{Slotted, counts, days, kept_as, outside, Signed, Counted, Wide, ADay};
+ghost use Rattle.parsed.specs.Slots.{Slotted, counts, days, kept_as, outside, signed, counted, wide, a_day};
 
 use super::same::set_if_consistent;
 use collect::fault::{Cause, Layer};
@@ -23,7 +23,7 @@ fn out_of_range(field: Field) -> Cause
 }
 
 pub(crate) fn put_i32(old: &mut Option<i32>, field: Field, value: i64) -> Result<(), Cause>
-    requires { kept_as field ≡ Signed }
+    requires { kept_as field ≡ signed }
     ensures { Slotted old.old (field_number field) value (verdict result) old.new }
 {
     if !field.admits(value) {
@@ -33,7 +33,7 @@ pub(crate) fn put_i32(old: &mut Option<i32>, field: Field, value: i64) -> Result
 }
 
 pub(crate) fn put_u32(old: &mut Option<u32>, field: Field, value: i64) -> Result<(), Cause>
-    requires { kept_as field ≡ Counted }
+    requires { kept_as field ≡ counted }
     ensures { Slotted (option_map pos old.old) (field_number field) value (verdict result) (option_map pos old.new) }
 {
     if !field.admits(value) {
@@ -43,7 +43,7 @@ pub(crate) fn put_u32(old: &mut Option<u32>, field: Field, value: i64) -> Result
 }
 
 pub(crate) fn put_i64(old: &mut Option<i64>, field: Field, value: i64) -> Result<(), Cause>
-    requires { kept_as field ≡ Wide }
+    requires { kept_as field ≡ wide }
     ensures { Slotted old.old (field_number field) value (verdict result) old.new }
 {
     if !field.admits(value) {
@@ -53,7 +53,7 @@ pub(crate) fn put_i64(old: &mut Option<i64>, field: Field, value: i64) -> Result
 }
 
 pub(crate) fn put_weekday(old: &mut Option<Weekday>, field: Field, value: i64) -> Result<(), Cause>
-    requires { kept_as field ≡ ADay }
+    requires { kept_as field ≡ a_day }
     ensures { Slotted (option_map (λ d. pos (day_number d)) old.old) (field_number field) value (verdict result) (option_map (λ d. pos (day_number d)) old.new) }
 {
     if !field.admits(value) {

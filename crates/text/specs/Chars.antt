@@ -1,4 +1,4 @@
--- Characters at the front of bytes. A text is UTF-8 by RFC 3629, which is `Utf8` of the standard library: the bytes of some list of
+-- Characters at the front of bytes. A text is UTF-8 by RFC 3629, which is `IsUtf8` of the standard library: the bytes of some list of
 -- Unicode scalar values, each in its one encoding. The definitions here are total: they speak of all bytes, text or not.
 use Rattle.std.specs.Prelude.{ℕ, zero, suc, ◌+◌, Bool, true, false, cond, not, ◌&&◌, ◌||◌, List, [], ◌∷◌, length, Some, None, Ok, Err, Option, Result, ◌==◌}
 use Rattle.std.proofs.Math.Utf8.{encode, scalar}
