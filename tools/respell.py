@@ -1,12 +1,12 @@
 #!/usr/bin/env python3
 """Brings the names that this repository defines in specs/ and proofs/ to the spelling of the library:
-functions, lemmas, fields, constructors and variables in snake case (first_char), types and records in
-camel case (ChainLaws). Names that Rattle makes of the source, and those of the library, stay.
+functions, lemmas, fields and variables in snake case (first_char), types, records and what else begins with
+a capital in camel case (ChainLaws). Names that Rattle makes of the source, and those of the library, stay.
 
 usage: python3 tools/respell.py [--list]      at the top of the repository; --list only prints the table
 
-Rewrites .antt files, ghost text in .rt files, .edit files, and words in backquotes in docs/ and README.md.
-It goes by whole tokens, and stops where two names would fall together.
+Rewrites .antt, .rt and .edit files, and words in backquotes in docs/ and README.md.
+It goes by whole tokens, and tells where two names fall together in a file: look there.
 """
 
 import os
