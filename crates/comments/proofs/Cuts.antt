@@ -1,13 +1,11 @@
 -- A comment ends behind its ')', so it takes whole characters.
-use Rattle.std.proofs.Common.{◌≡◌, ℕ, suc, ◌+◌, List, [], ◌∷◌, ◌++◌, length, get_or, drop, Ok, Err, Result, refl, ap, ◌∙◌, subst, arith, length-append}
+use Rattle.std.proofs.Common.{◌≡◌, ℕ, suc, ◌+◌, List, [], ◌∷◌, ◌++◌, length, get_or, Ok, Err, Result, refl, ap, ◌∙◌, subst, arith, length-append}
 use Rattle.std.proofs.lemmas.List.{append_assoc, get_or_at}
-use Rattle.scan.specs.Steps.{bind, CutsMark}
+use Rattle.scan.specs.Steps.{CutsMark}
 use Rattle.scan.specs.declared.kind.ParseErrorKind.{ParseErrorKind}
-use Rattle.scan.proofs.Marks.{blanks_cut}
-use Rattle.text.specs.Chars.{blanks_at}
 use Rattle.text.specs.Cuts.{Cut}
-use Rattle.text.proofs.Cutting.{cut_after, cut_more}
-use Rattle.comments.specs.Comments.{closes_at, comment_at}
+use Rattle.text.proofs.Cutting.{cut_after}
+use Rattle.comments.specs.Comments.{closes_at}
 use Rattle.comments.proofs.Contents.{Stands, sound}
 
 stands_cut : (s : List ℕ) (m : ℕ) → Stands s m → Cut s m
@@ -31,11 +29,3 @@ granted_cut s (Err k) e = tt
 
 pub closes_cut : (s : List ℕ) → CutsMark s (closes_at s)
 closes_cut s = granted_cut s (closes_at s) refl
-
-behind : (s : List ℕ) (k : ℕ) (r : Result ℕ ParseErrorKind) → Cut s k → CutsMark (drop k s) r → CutsMark s (bind r (λ n. Ok (k + n)))
-behind s k (Ok m) a b = cut_more s k m a b
-behind s k (Err e) a b = tt
-
-pub comment_cut : (s : List ℕ) → CutsMark s (comment_at s)
-unfolding comment_at
-comment_cut s = behind s (blanks_at s) (closes_at (drop (blanks_at s) s)) (blanks_cut s) (closes_cut (drop (blanks_at s) s))

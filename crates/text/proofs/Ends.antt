@@ -3,7 +3,8 @@ use Rattle.std.proofs.Common.{◌≡◌, ℕ, zero, suc, ◌+◌, ◌<◌, ◌�
 use lib.Utf8.{encode, encodes}
 use Rattle.std.proofs.lemmas.List.{append_assoc, take-append-drop, take_all, length-take-le, take_at}
 use Rattle.std.proofs.lemmas.Bool.{cases_lt, cond-true, cond-false, eq-eqb, ne_eqb}
-use Rattle.std.proofs.lemmas.Str.{length-encode, len_utf8_bounds, IsUtf8-nil, IsUtf8-append, IsUtf8-encode}
+use Rattle.std.proofs.lemmas.Str.{length-encode, len_utf8_bounds, IsUtf8-nil, IsUtf8-append, IsUtf8-encode, utf8_valid_len-IsValidUpTo, utf8_valid_len-IsUtf8}
+use Rattle.std.specs.Str.Lossy.{utf8_valid_len}
 use Rattle.std.specs.Str.{IsValidUpTo}
 use Rattle.std.specs.Char.{len_utf8}
 use Rattle.text.specs.Chars.{first_char, run, all_pass, any_char, text_end, is_text, text_check}
@@ -78,6 +79,23 @@ unfolding text_check
 check_no s n a l =
     let e = longest_one s n (text_end s) a (longest_end s) in
     ap Err e ∙ sym (cond-false (is_text s) (Ok tt) (Err (text_end s)) (ne_eqb (text_end s) (length s) (λ q. omega arith)))
+
+-- the standard library's longest beginning is the same
+pub longest_valid : (s : List ℕ) → Longest s (utf8_valid_len s)
+longest_valid s =
+    let e = longest_end s in
+    let n = text_end s in
+    let all : (m : ℕ) → length s ≤ m → IsUtf8 (take m s) → IsUtf8 (take (length s) s)
+    = λ m l u. subst IsUtf8 (take_all m s l ∙ sym (take_all (length s) s (omega arith))) u in
+    ⊎_elim (λ h.
+    let v : IsValidUpTo s n
+    = record { short = h; front = e.front; longest = λ m g u. ⊎_elim (λ k. e.most m g (omega arith) u) (λ k. e.most (length s) h (omega arith) (all m k u)) (cases_lt m (length s)) } in
+    subst (λ k. Longest s k) (sym (utf8_valid_len-IsValidUpTo s n v)) e)
+    (λ h.
+    let w = e.within in
+    let q : n ≡ length s = omega arith in
+    subst (λ k. Longest s k) (q ∙ sym (utf8_valid_len-IsUtf8 s (subst IsUtf8 (take_all n s h) e.front))) e)
+    (cases_lt n (length s))
 
 pub from_std : (s : List ℕ) (n m : ℕ) → IsValidUpTo s n → m ≡ n → Longest s m
 from_std s n m v e =

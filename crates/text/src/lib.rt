@@ -1,42 +1,22 @@
 // Text: which bytes are UTF-8, the character that stands in front, and blanks.
 #![tactic(auto)]
 
-ghost use Rattle.std.specs.Prelude.{◌≡◌, ◌<◌, take};
-ghost use Rattle.text.specs.Chars.{first_char, blank, blanks_at, non_blanks_at, text_check};
-ghost use Rattle.text.specs.Cuts.{Cut, First, Longest, Checked};
-
-// At most four bytes from the front: no character has more.
-fn four(s: &[u8]) -> &[u8]
-    ensures { result.now ≡ take 4 s.now }
-{
-    if s.len() < 4 { s } else { &s[0..4] }
-}
-
-// The length of the longest beginning that is text.
-fn valid_len(bytes: &[u8]) -> usize
-    ensures { Longest bytes.now result }
-{
-    match std::str::from_utf8(bytes) {
-        Ok(text) => text.len(),
-        Err(e) => e.valid_up_to(),
-    }
-}
+ghost use Rattle.std.specs.Prelude.{◌≡◌, ℕ, Bool};
+ghost use Rattle.text.specs.Chars.{first_char, blank, not_blank, blanks_at, non_blanks_at, run, text_check};
+ghost use Rattle.text.specs.Cuts.{Cut, First, Checked};
 
 // The character that bytes begin with, if they begin with one.
 pub fn first_char(s: &[u8]) -> Option<char>
     ensures value { result ≡ first_char s.now }
     ensures meaning { First s.now result }
 {
-    if let [b, ..] = s {
-        if *b < 128 {
-            return Some(*b as char);
+    match s {
+        [b, ..] if b.is_ascii() => Some(char::from(*b)),
+        // no character has more than four bytes
+        _ => {
+            let chunk = s[..s.len().min(4)].utf8_chunks().next()?;
+            chunk.valid().chars().next()
         }
-    }
-    let front = four(s);
-    let n = valid_len(front);
-    match std::str::from_utf8(&front[0..n]) {
-        Ok(text) => text.chars().next(),
-        Err(_) => unreachable(),
     }
 }
 
@@ -53,6 +33,7 @@ pub fn blanks(s: &[u8]) -> usize
     ensures cut { Cut s.now result }
 {
     let mut n: usize = 0;
+    // by rule a search of the table inside the loop, left by the label, and not a `run` of a class
     'chars: while let Some(c) = first_char(&s[n..]) {
         for b in WHITE_SPACE {
             if c == b {
@@ -65,33 +46,53 @@ pub fn blanks(s: &[u8]) -> usize
     n
 }
 
-// How many bytes of characters that are no blanks stand in front.
-pub fn non_blanks(s: &[u8]) -> usize
-    ensures value { result ≡ non_blanks_at s.now }
+// A class of characters.
+pub trait CharClass {
+    ghost has: { ℕ → Bool };
+
+    fn contains(c: char) -> bool
+        ensures { result ≡ has c };
+}
+
+// How many bytes of characters of a class stand in front.
+pub fn run<K: CharClass>(s: &[u8]) -> usize
+    ensures value { result ≡ run K.has s.now }
     ensures cut { Cut s.now result }
 {
-    let mut end: usize = 0;
-    'chars: while let Some(c) = first_char(&s[end..]) {
-        for b in WHITE_SPACE {
-            if c == b {
-                break 'chars;
-            }
+    let mut end = 0;
+    while let Some(c) = first_char(&s[end..]) {
+        if !K::contains(c) {
+            break;
         }
         end += c.len_utf8();
     }
     end
 }
 
+// All characters but blanks.
+struct NonBlank;
+
+impl CharClass for NonBlank {
+    ghost has = { not_blank };
+
+    fn contains(c: char) -> bool {
+        !is_blank(c)
+    }
+}
+
+// How many bytes of characters that are no blanks stand in front.
+pub fn non_blanks(s: &[u8]) -> usize
+    ensures value { result ≡ non_blanks_at s.now }
+    ensures cut { Cut s.now result }
+{
+    run::<NonBlank>(s)
+}
+
 // Has the character White_Space?
 pub fn is_blank(c: char) -> bool
     ensures { result ≡ blank c }
 {
-    for b in WHITE_SPACE {
-        if c == b {
-            return true;
-        }
-    }
-    false
+    WHITE_SPACE.contains(&c)
 }
 
 // Are the bytes text? If not, how long is the longest beginning that is?
@@ -99,8 +100,7 @@ pub fn check_text(bytes: &[u8]) -> Result<(), usize>
     ensures value { result ≡ text_check bytes.now }
     ensures meaning { Checked bytes.now result }
 {
-    match std::str::from_utf8(bytes) {
-        Ok(_) => Ok(()),
-        Err(e) => Err(e.valid_up_to()),
-    }
+    std::str::from_utf8(bytes)
+        .map_err(|e| e.valid_up_to())
+        .map(|_| ())
 }

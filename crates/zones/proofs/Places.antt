@@ -1,15 +1,19 @@
--- The parts of an offset, by places in the text.
-use Rattle.std.proofs.Common.{◌≡◌, ℕ, ◌<◌, ◌≤◌, Bool, true, false, cond, ◌&&◌, eqb, List, [], ◌∷◌, length, get_or, Some, None, Ok, Err, Option, Result, sym, refl, ap, ◌∙◌, arith}
+-- The parts of an offset, by places in the text, and where they cut it.
+use Rattle.std.proofs.Common.{◌≡◌, ℕ, ◌+◌, ◌-◌, ◌<◌, ◌≤◌, Bool, true, false, cond, ◌&&◌, eqb, List, [], ◌∷◌, length, get_or, take, drop, Some, None, Ok, Err, Option, Result, sym, refl, ap, subst, ⊎_elim, arith}
 use Rattle.scan.specs.declared.kind.ParseErrorKind.{ParseErrorKind}
 use Rattle.scan.specs.declared.kind.ParseErrorKind.TheVariants.{OutOfRange, Invalid, TooShort}
-use Rattle.std.proofs.lemmas.Bool.{cond-true, cond-false, eqb-true}
+use Rattle.std.proofs.lemmas.Bool.{or_cases, eqb-true, true≢false}
+use Rattle.std.proofs.lemmas.Bool.Decides.{nat_tests}
+use Rattle.std.proofs.lemmas.List.{take_rest}
 use Rattle.std.specs.Int.{is_in_range}
 use Rattle.std.specs.Char.{is_ascii_digit, len_utf8}
 use Rattle.text.specs.Chars.{first_char}
+use Rattle.text.specs.Cuts.{Cut}
+use Rattle.text.proofs.Cutting.{cut_none, cut_cons, cut_more, cut_after}
 use Rattle.text.proofs.Runs.{cut_char}
 use Rattle.zones.specs.declared.offset.Sign.{Sign}
 use Rattle.zones.specs.declared.offset.Sign.TheVariants.{Plus, HyphenMinus, MinusSign}
-use Rattle.zones.specs.Offsets.{sign_by, sign_at, pair, hours_at, minutes_at}
+use Rattle.zones.specs.Offsets.{sign_by, sign_at, zulu_at, pair, hours_at, minutes_at, Meaning, separated_at}
 use Rattle.zones.specs.Signs.{sign_of}
 
 -- two bytes or more stand there, or fewer
@@ -41,15 +45,33 @@ minutes_few false [] h = refl
 minutes_few missing (a ∷ []) h = refl
 minutes_few missing (a ∷ b ∷ bs) h = absurd (omega arith)
 
-pub sign_none : (minus : Bool) (s : List ℕ) → length s ≡ 0 → Err TooShort ≡ sign_at minus s
+-- behind two ASCII bytes
+pub two_cut : (s : List ℕ) → 2 ≤ length s → get_or s 0 0 < 128 → get_or s 1 0 < 128 → Cut s 2
+two_cut [] h a b = absurd (omega arith)
+two_cut (x ∷ []) h a b = absurd (omega arith)
+two_cut (x ∷ y ∷ bs) h a b = cut_cons x (y ∷ bs) 1 a (cut_cons y bs 0 b (cut_none bs))
+
+-- what hours and minutes are proved by
+pub ruleset two_digits = (nat_tests, hours_two, hours_few, minutes_two, minutes_few, two_cut)
+
+-- one cut behind another, in the slice that is left
+pub cut_on : (s : List ℕ) (n m : ℕ) → Cut s n → Cut (take (length s - n) (drop n s)) m → Cut s (n + m)
+cut_on s n m a b = cut_more s n m a (subst (λ x. Cut x m) (take_rest s n) b)
+
+pub zulu_cut : (s : List ℕ) → zulu_at s ≡ true → Cut s 1
+zulu_cut [] e = absurd (true≢false (sym e))
+zulu_cut (b ∷ bs) e =
+    ⊎_elim (λ f. let q = eqb-true b 90 f in cut_after (b ∷ bs) 0 (omega arith) (omega arith)) (λ f. let q = eqb-true b 122 f in cut_after (b ∷ bs) 0 (omega arith) (omega arith))
+    (or_cases (eqb b 90) (eqb b 122) e)
+
+-- the sign in front
+pub sign_cut : (s : List ℕ) (c w : ℕ) → first_char s ≡ Some c → w ≡ len_utf8 c → Cut s w
+sign_cut s c w e q = subst (λ k. Cut s k) (sym q) (cut_char s c e)
+
+pub sign_none : (minus : Bool) (s : List ℕ) → length s ≡ 0 → sign_at minus s ≡ Err TooShort
 unfolding sign_at
 sign_none minus [] h = refl
 sign_none minus (b ∷ bs) h = absurd (omega arith)
-
-pub sign_first : (minus : Bool) (s : List ℕ) (o : Option ℕ) → 0 < length s → o ≡ first_char s → sign_by minus o ≡ sign_at minus s
-unfolding sign_at
-sign_first minus [] o h e = absurd (omega arith)
-sign_first minus (b ∷ bs) o h e = ap (sign_by minus) e
 
 -- the answer by the sign that the first character is, and its width
 abbrev pub by_sign : Bool → ℕ → Option Sign → Result (Bool × ℕ) ParseErrorKind
@@ -58,26 +80,26 @@ by_sign minus w (Some Plus) = Ok (false, w)
 by_sign minus w (Some HyphenMinus) = Ok (true, w)
 by_sign minus w (Some MinusSign) = cond minus (Ok (true, w)) (Err Invalid)
 
-told : (minus p h m : Bool) (c : ℕ) → eqb c 0x2b ≡ p → eqb c 0x2d ≡ h → eqb c 0x2212 ≡ m → by_sign minus (len_utf8 c) (sign_of c) ≡ sign_by minus (Some c)
+abbrev pub by_first : Bool → Option ℕ → Result (Bool × ℕ) ParseErrorKind
+by_first minus None = Err Invalid
+by_first minus (Some c) = by_sign minus (len_utf8 c) (sign_of c)
+
+told : (minus p h m : Bool) (c : ℕ) → eqb c 0x2b ≡ p → eqb c 0x2d ≡ h → eqb c 0x2212 ≡ m → sign_by minus (Some c) ≡ by_sign minus (len_utf8 c) (sign_of c)
 told minus true h m c e f g = let q = eqb-true c 0x2b e in rw q refl
 told minus false true m c e f g = let q = eqb-true c 0x2d f in rw q refl
 told true false false true c e f g = let q = eqb-true c 0x2212 g in rw q refl
 told false false false true c e f g = let q = eqb-true c 0x2212 g in rw q refl
 told minus false false false c e f g = rw (e, f, g) refl
 
-pub sign_told : (minus : Bool) (c : ℕ) → by_sign minus (len_utf8 c) (sign_of c) ≡ sign_by minus (Some c)
-sign_told minus c = told minus _ _ _ c refl refl refl
+told_first : (minus : Bool) (o : Option ℕ) → sign_by minus o ≡ by_first minus o
+told_first minus None = refl
+told_first minus (Some c) = told minus _ _ _ c refl refl refl
 
--- a sign that was read
-module _ (minus : Bool) (s : List ℕ) (c : ℕ) (l : 0 < length s) (f : Some c ≡ first_char s) where
-  pub sign_read : (o : Option Sign) (w : ℕ) → o ≡ sign_of c → w ≡ len_utf8 c → by_sign minus w o ≡ sign_at minus s
-  sign_read o w e q = ap (λ x. by_sign minus x o) q ∙ (ap (by_sign minus (len_utf8 c)) e ∙ (sign_told minus c ∙ sign_first minus s (Some c) l f))
+pub sign_some : (minus : Bool) (s : List ℕ) → 0 < length s → sign_at minus s ≡ by_first minus (first_char s)
+unfolding sign_at
+sign_some minus [] l = absurd (omega arith)
+sign_some minus (b ∷ bs) l = told_first minus (first_char (b ∷ bs))
 
-  pub minus_read : (w : ℕ) → Some MinusSign ≡ sign_of c → w ≡ len_utf8 c → minus ≡ true → Ok (true, w) ≡ sign_at minus s
-  minus_read w e q m = sym (cond-true minus (Ok (true, w)) (Err Invalid) m) ∙ sign_read (Some MinusSign) w e q
-
-  pub minus_refused : Some MinusSign ≡ sign_of c → minus ≡ false → Err Invalid ≡ sign_at minus s
-  minus_refused e m = sym (cond-false minus (Ok (true, len_utf8 c)) (Err Invalid) m) ∙ sign_read (Some MinusSign) (len_utf8 c) e refl
-
-  pub sign_within : (w : ℕ) → w ≡ len_utf8 c → w ≤ length s
-  sign_within w q = let k = (cut_char s c (sym f)).within in omega arith
+-- a separator that has run means what it meant
+pub still : (sep sep' : Meaning) (missing : Bool) (s : List ℕ) → ((t : List ℕ) → sep' t ≡ sep t) → separated_at sep' missing s ≡ separated_at sep missing s
+still sep sep' missing s h = ap (λ x. separated_at x missing s) (λ i t. h t i)

@@ -1,6 +1,7 @@
 -- The zones of mail, by RFC 2822, sections 3.3 and 4.3: a number, or a name in ASCII letters, case ignored.
-use Rattle.std.specs.Prelude.{ℕ, ◌+◌, ◌*◌, false, cond, List, [], ◌∷◌, map, take, ℤ, pos, neg_ℤ, Some, None, Ok, Err, codes, Option, Result, ◌==◌}
+use Rattle.std.specs.Prelude.{ℕ, ◌*◌, false, cond, List, [], ◌∷◌, map, take, ℤ, pos, neg_ℤ, Some, None, Ok, Err, codes, Option, Result, ◌==◌}
 use Rattle.std.specs.Borrow.{Bor}
+use Rattle.std.specs.List.{prefix_len}
 use Rattle.scan.specs.Letters.{alike}
 use Rattle.scan.specs.declared.kind.ParseErrorKind.{ParseErrorKind}
 use Rattle.scan.specs.declared.kind.ParseErrorKind.TheVariants.{Invalid}
@@ -39,8 +40,7 @@ behind name = or_else (listed zone_table name) (military name)
 
 -- how many letters stand in front
 unfoldable pub letters_at : List ℕ → ℕ
-letters_at [] = 0
-letters_at (b ∷ bs) = cond (is_ascii_alphabetic b) (letters_at bs + 1) 0
+letters_at s = prefix_len is_ascii_alphabetic s
 
 abbrev pub named : ℕ → Option ℕ → Result (ℤ × ℕ) ParseErrorKind
 named n None = Err Invalid

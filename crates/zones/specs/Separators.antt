@@ -10,6 +10,10 @@ abbrev pub Modest : Result ℕ ParseErrorKind → Type 0
 Modest (Ok n) = Unit {0}
 Modest (Err e) = (e ≡ Invalid) ⊎ (e ≡ TooShort)
 
+-- a separator means what it meant, by what each state of it means
+abbrev pub Unmoved : {S : Type 0} → (S → List ℕ → Result ℕ ParseErrorKind) → S → S → Type 0
+Unmoved means old new = (t : List ℕ) → means new t ≡ means old t
+
 abbrev pub nothing_at : List ℕ → Result ℕ ParseErrorKind
 nothing_at t = Ok 0
 

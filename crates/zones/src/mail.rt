@@ -1,6 +1,7 @@
 // The zones of mail: a number, or a name.
-ghost use Rattle.std.specs.Prelude.{◌≡◌, ◌≤◌, length, IfSome};
+ghost use Rattle.std.specs.Prelude.{◌≡◌, ◌≤◌, IfSome};
 ghost use Rattle.scan.specs.Steps.{Cuts};
+ghost use Rattle.text.specs.Cuts.{Cut};
 ghost use Rattle.zones.specs.Mail.{behind, entries, letters_at, listed, military, offset_2822_at};
 
 use super::offset::{in_seconds, timezone_offset};
@@ -24,26 +25,19 @@ const ZONES: [(&[u8], u32); 10] = [
 // How many ASCII letters stand in front.
 fn letters(s: &[u8]) -> usize
     ensures value { result ≡ letters_at s.now }
-    ensures within { result ≤ length s.now }
+    ensures cut { Cut s.now result }
 {
-    for (i, b) in s.iter().enumerate() {
-        if !b.is_ascii_alphabetic() {
-            return i;
-        }
-    }
-    s.len()
+    s.iter().take_while(|b| b.is_ascii_alphabetic()).count()
 }
 
 // The hours of a zone by a table.
 fn listed(zones: &[(&[u8], u32)], name: &[u8]) -> Option<u32>
     ensures value { result ≡ listed (entries zones.now) name.now }
 {
-    for (zone, hours) in zones.iter() {
-        if name.eq_ignore_ascii_case(zone) {
-            return Some(*hours);
-        }
-    }
-    None
+    zones
+        .iter()
+        .find(|(zone, _)| name.eq_ignore_ascii_case(zone))
+        .map(|(_, hours)| *hours)
 }
 
 // A military zone, a single letter but J, is to be taken for UTC.
@@ -61,13 +55,11 @@ fn hours_behind(name: &[u8]) -> Option<u32>
     ensures value { result ≡ behind name.now }
     ensures bound { IfSome result (λ h. h ≤ 8) }
 {
-    match listed(&ZONES, name) {
-        Some(hours) => Some(hours),
-        None => military(name),
-    }
+    listed(&ZONES, name).or_else(|| military(name))
 }
 
 // The offset of a zone of mail, in seconds: of a name where letters stand in front, else of a number of four digits.
+#[tactic(auto, unfolding(crate::specs::Mail::offset_2822_at))]
 pub fn timezone_offset_2822(s: &[u8]) -> Result<(i32, usize), ParseErrorKind>
     ensures value { result ≡ offset_2822_at s.now }
     ensures cut { Cuts s.now result }
@@ -76,8 +68,6 @@ pub fn timezone_offset_2822(s: &[u8]) -> Result<(i32, usize), ParseErrorKind>
     if n == 0 {
         return timezone_offset(s, &mut NoSeparator, false, false, false);
     }
-    match hours_behind(&s[0..n]) {
-        Some(hours) => Ok((in_seconds(true, hours * 3600), n)),
-        None => Err(ParseErrorKind::Invalid),
-    }
+    let hours = hours_behind(&s[..n]).ok_or(ParseErrorKind::Invalid)?;
+    Ok((in_seconds(true, hours * 3600), n))
 }

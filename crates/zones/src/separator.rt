@@ -3,13 +3,14 @@ ghost use Rattle.std.specs.Prelude.{◌≡◌, ℕ, List, Ok, Result as Answer};
 ghost use Rattle.scan.specs.Steps.{CutsMark};
 ghost use Rattle.scan.specs.declared.kind.ParseErrorKind.{ParseErrorKind as Kind};
 ghost use Rattle.text.specs.Cuts.{Cut};
-ghost use Rattle.zones.specs.Separators.{Modest, nothing_at, colon_at, colon_or_space_at, colon_or_blank, colon_or_space};
+ghost use Rattle.zones.specs.Separators.{Modest, Unmoved, nothing_at, colon_at, colon_or_space_at, colon_or_blank, colon_or_space};
 ghost use Rattle.std.proofs.Common.{rules, arith};
 ghost use Rattle.scan.proofs.Marks.{char_cut};
 ghost use Rattle.zones.specs.ColonSeparatorLemmas;
 ghost use Rattle.text.proofs.Runs.{run_cut};
 
 use scan::kind::ParseErrorKind;
+use text::CharClass;
 
 // Its meaning is one answer for each text: how many bytes it takes off the front, or a refusal.
 pub trait Separator {
@@ -18,7 +19,7 @@ pub trait Separator {
     // A run gives the answer for its text, and the meaning stays.
     fn run(&mut self, text: &[u8]) -> Result<usize, ParseErrorKind>
         ensures value { result ≡ means self.old text.now }
-        ensures same { (t : List ℕ) → means self.new t ≡ means self.old t };
+        ensures same { Unmoved means self.old self.new };
 
     // it takes whole characters, and no more than the text has
     ghost cuts: { (s : Self) (t : List ℕ) → CutsMark t (means s t) };
@@ -59,25 +60,24 @@ impl Separator for Colon {
     }
 }
 
-fn is_colon_or_blank(c: char) -> bool
-    ensures { result ≡ colon_or_blank c }
-{
-    c == ':' || text::is_blank(c)
+// A colon, and all blanks.
+struct ColonOrBlank;
+
+impl CharClass for ColonOrBlank {
+    ghost has = { colon_or_blank };
+
+    fn contains(c: char) -> bool {
+        c == ':' || text::is_blank(c)
+    }
 }
 
 // Consumes any number, also none, of colons and blanks.
+#[tactic(auto, unfolding(crate::specs::Separators::colon_or_space))]
 pub fn colon_or_space(s: &[u8]) -> usize
     ensures value { result ≡ colon_or_space s.now }
     ensures cut { Cut s.now result }
 {
-    let mut n: usize = 0;
-    while let Some(c) = text::first_char(&s[n..]) {
-        if !is_colon_or_blank(c) {
-            break;
-        }
-        n += c.len_utf8();
-    }
-    n
+    text::run::<ColonOrBlank>(s)
 }
 
 // Any number of colons and blanks.

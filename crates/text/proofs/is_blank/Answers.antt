@@ -1,15 +1,14 @@
-use Rattle.std.proofs.Common.{sym, ◌∙◌}
-use Rattle.text.specs.Chars.{blank, white_space}
-use Rattle.text.proofs.Tables.{passed, found, missed}
+use Rattle.std.proofs.Common.{◌≡◌, ℕ, List, [], ◌∷◌, eqb, refl, ◌∙◌, arith}
+use Rattle.std.proofs.lemmas.Bool.Decides.{nat_tests}
+use Rattle.std.specs.List.{list_any}
+use Rattle.text.specs.Chars.{among, blank, white_space}
 use Rattle.text.proofs.is_blank.Goals as goal
 
-pub loop-b-preserved : goal.loop-b-preserved
-loop-b-preserved c = passed c.args.c white_space c.loop-b.b-index c.loop-b-test.true c.if-c-b.false ∙ c.loop-b.invariant
-
-pub returns-then-c-b : goal.returns-then-c-b
-unfolding blank
-returns-then-c-b c = sym (found c.args.c white_space c.loop-b.b-index c.loop-b-test.true c.if-c-b.true) ∙ c.loop-b.invariant
+any_among : (c : ℕ) (bs : List ℕ) → list_any (λ b. eqb b c) bs ≡ among c bs
+unfolding among
+any_among c [] = refl
+any_among c (b ∷ bs) = let h = any_among c bs in grind (arith, nat_tests)
 
 pub returns : goal.returns
 unfolding blank
-returns c = sym (missed c.args.c white_space c.loop-b.b-index c.loop-b-test.false) ∙ c.loop-b.invariant
+returns c = c.contains.ensures.value ∙ any_among c.args.c white_space

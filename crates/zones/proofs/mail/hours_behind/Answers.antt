@@ -1,13 +1,16 @@
-use Rattle.std.proofs.Common.{Some}
-use Rattle.zones.proofs.Named.{in_table, not_in_table, behind_few}
+use Rattle.std.proofs.Common.{◌≡◌, ℕ, Some, None, Option, rules, MatchOption, ◌∙◌}
+use Rattle.zones.specs.Mail.{military, or_else, behind}
+use Rattle.zones.proofs.Named.{behind_few}
 use Rattle.zones.proofs.mail.hours_behind.Goals as goal
 
-pub returns-in-Some : goal.returns-in-Some
-returns-in-Some c =
-    let v = in_table c.args.name.now c.in-Some.hours c.in-Some.ensures.value in
-    record { value = v; bound = behind_few c.args.name.now (Some c.in-Some.hours) v }
+either : (o p r : Option ℕ) (P : Type 0) → (P → r ≡ p) → MatchOption o P (λ h. r ≡ Some h) → r ≡ or_else o p
+either None p r P f h = f h
+either (Some x) p r P f h = h
 
-pub returns-in-None : goal.returns-in-None
-returns-in-None c =
-    let v = not_in_table c.args.name.now c.military.result c.in-None.ensures.value c.military.ensures in
-    record { value = v; bound = behind_few c.args.name.now c.military.result v }
+pub returns : goal.returns
+unfolding behind
+returns c =
+    let v = either c.listed.result (military c.args.name.now) c.or_else.result _ (λ q. search rules) c.or_else.ensures in
+    let e = c.listed.ensures.value in
+    let w = v ∙ rw e in
+    record { value = w; bound = behind_few c.args.name.now c.or_else.result w }

@@ -1,26 +1,19 @@
-use Rattle.std.proofs.Common.{◌≡◌, ◌+◌, drop, arith, rules}
-use Rattle.std.proofs.lemmas.List.{at_drop_more, at_drop_all}
+use Rattle.std.proofs.Common.{rules, sym, ◌∙◌, subst}
+use borrow.Author.Tests.{tests}
+use Rattle.std.specs.Char.{is_ascii_alphabetic}
+use Rattle.std.proofs.lemmas.Iterator.{YieldsList-from_slice}
+use Rattle.std.proofs.lemmas.Iterator.Consumers.{count_from_yields_List}
+use Rattle.std.proofs.lemmas.Iterator.Search.{YieldsList-from_take_while}
+use Rattle.std.proofs.lemmas.List.Folds.{length-prefix_len}
+use Rattle.text.specs.Cuts.{Cut}
+use Rattle.zones.proofs.Named.{letters_cut}
 use Rattle.zones.specs.Mail.{letters_at}
 use Rattle.zones.proofs.mail.letters.Goals as goal
-
-pub returns-then-not-is_ascii_alphabetic : goal.returns-then-not-is_ascii_alphabetic
-unfolding letters_at
-returns-then-not-is_ascii_alphabetic c =
-    let h = at_drop_more letters_at c.args.s.now c.loop-i.i 0 c.loop-i-test.true in
-    let d = c.if-not-is_ascii_alphabetic.ensures.value in
-    let e : letters_at (drop c.loop-i.i c.args.s.now) ≡ 0 = rw (← d) at h in
-    record { value = omega arith; within = search rules }
-
-pub loop-i-preserved : goal.loop-i-preserved
-unfolding letters_at
-loop-i-preserved c =
-    let h = at_drop_more letters_at c.args.s.now c.loop-i.i 0 c.loop-i-test.true in
-    let d = c.if-not-is_ascii_alphabetic.ensures.value in
-    let e : letters_at (drop c.loop-i.i c.args.s.now) ≡ letters_at (drop (c.loop-i.i + 1) c.args.s.now) + 1 = rw (← d) at h in
-    omega arith
 
 pub returns : goal.returns
 unfolding letters_at
 returns c =
-    let h : letters_at (drop c.loop-i.i c.args.s.now) ≡ 0 = at_drop_all letters_at c.args.s.now c.loop-i.i c.loop-i-test.false in
-    record { value = omega arith; within = search rules }
+    let v = count_from_yields_List c.take_while.result _ c.count.ensures.ran
+    (YieldsList-from_take_while _ is_ascii_alphabetic (YieldsList-from_slice c.args.s.now (cc)) c.take_while.ensures.closure c.take_while.ensures.done (λ x b q k. search (rules, tests)))
+    ∙ length-prefix_len is_ascii_alphabetic c.args.s.now in
+    record { value = v; cut = subst (λ k. Cut c.args.s.now k) (sym v) (letters_cut c.args.s.now) }
