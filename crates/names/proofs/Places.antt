@@ -1,32 +1,31 @@
--- A search of a list of names, from a place on.
-use Rattle.std.proofs.Common.{◌≡◌, ℕ, ◌+◌, ◌<◌, ◌≤◌, true, false, cond, List, length, get_or, take, drop, Ok, Err, sym, ap, ◌∙◌, Bor}
-use Rattle.std.proofs.lemmas.List.{at_drop_more, at_drop_all}
+-- The search of a table of names.
+use Rattle.std.proofs.Common.{◌≡◌, ℕ, ◌+◌, ◌<◌, ◌≤◌, Bool, cond, not, List, [], ◌∷◌, length, take, min, arith, Err, Option, Result, refl, sym, ap, ◌∙◌, Bor}
+use Rattle.std.proofs.lemmas.List.{length-map, take_min}
 use Rattle.std.proofs.lemmas.Bool.{cond-true, cond-false, lt-ltb, le-ltb}
+use Rattle.std.specs.List.{position, position_or_len}
+use Rattle.std.specs.Option.{ok_or}
+use Rattle.scan.specs.declared.kind.ParseErrorKind.{ParseErrorKind}
 use Rattle.scan.specs.declared.kind.ParseErrorKind.TheVariants.{Invalid, TooShort}
-use Rattle.names.specs.Names.{begins_alike, place_from, short_at, texts}
+use Rattle.names.specs.Names.{begins_alike, short_at, texts}
 
-module _ (ts : List (Bor (List ℕ))) (s : List ℕ) (i : ℕ) where
-  here : (d : Bor (List ℕ)) → i < length ts → place_from i (texts (drop i ts)) s
-      ≡ cond (begins_alike (take 3 (get_or ts i d).now) s) (Ok i) (place_from (i + 1) (texts (drop (i + 1) ts)) s)
-  unfolding place_from
-  here d l = at_drop_more (λ us. place_from i (texts us) s) ts i d l
+-- a search of references is one of the texts that they point to
+counted : (p : List ℕ → Bool) (ts : List (Bor (List ℕ))) → position_or_len (λ t. p t.now) ts ≡ position_or_len p (texts ts)
+counted p [] = refl
+counted p (t ∷ ts) = ap (λ n. cond (not (p t.now)) (1 + n) 0) (counted p ts)
 
-  -- x is the short form of the name at i
-  module _ (x : List ℕ) (d : Bor (List ℕ)) (l : i < length ts) (e : x ≡ take 3 (get_or ts i d).now) where
-    pub found : true ≡ begins_alike x s → place_from i (texts (drop i ts)) s ≡ Ok i
-    found t = here d l ∙ cond-true _ _ _ (sym (t ∙ ap (λ y. begins_alike y s) e))
-
-    pub passed : false ≡ begins_alike x s → place_from (i + 1) (texts (drop (i + 1) ts)) s ≡ place_from i (texts (drop i ts)) s
-    passed t = sym (here d l ∙ cond-false _ _ _ (sym (t ∙ ap (λ y. begins_alike y s) e)))
-
-  pub missed : length ts ≤ i → place_from i (texts (drop i ts)) s ≡ Err Invalid
-  unfolding place_from
-  missed l = at_drop_all (λ us. place_from i (texts us) s) ts i l
+searched : (p : List ℕ → Bool) (ts : List (Bor (List ℕ))) → position (λ t. p t.now) ts ≡ position p (texts ts)
+searched p ts = rw (counted p ts, length-map ts (λ t. t.now)) refl
 
 pub too_short : (ns : List (List ℕ)) (s : List ℕ) → length s < 3 → Err TooShort ≡ short_at ns s
 unfolding short_at
 too_short ns s l = sym (cond-true _ _ _ (lt-ltb _ _ l))
 
-pub long_enough : (ns : List (List ℕ)) (s : List ℕ) → 3 ≤ length s → short_at ns s ≡ place_from 0 ns s
+pub placed : (ts : List (Bor (List ℕ))) (s : List ℕ) (o : Option ℕ) (r : Result ℕ ParseErrorKind) → 3 ≤ length s
+    → r ≡ ok_or o Invalid → o ≡ position (λ t. begins_alike (take 3 t.now) s) ts → r ≡ short_at (texts ts) s
 unfolding short_at
-long_enough ns s l = cond-false _ _ _ (le-ltb _ _ l)
+placed ts s o r l e q =
+    e ∙ (ap (λ x. ok_or x Invalid) (q ∙ searched (λ n. begins_alike (take 3 n) s) ts) ∙ sym (cond-false _ _ _ (le-ltb _ _ l)))
+
+-- the first three letters, or all of them
+pub three : (n : List ℕ) → take (min (length n) 3) n ≡ take 3 n
+three n = let c : min (length n) 3 ≡ min 3 (length n) = omega arith in ap (λ k. take k n) c ∙ take_min 3 n

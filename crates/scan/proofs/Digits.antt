@@ -1,10 +1,21 @@
 -- Digits: one more, the end, how large a number is, and where it cuts.
-use Rattle.std.proofs.Common.{◌≡◌, ℕ, suc, ◌+◌, ◌-◌, ◌*◌, ◌^◌, ◌<◌, ◌≤◌, true, false, cond, ltb, leb, List, [], ◌∷◌, length, get_or, take, drop, ℤ, pos, ◌+ℤ◌, ◌*ℤ◌, IfOk, Ok, Err, Result, sym, refl, ap, ◌∙◌, subst, ⊎_elim, mul-le-mul_right, mul_assoc, mul_comm, one-mul, pow-suc, mul-one, arith, w64, SFits, to_z, of_z}
+use Rattle.std.proofs.Common.{◌≡◌, ℕ, suc, ◌+◌, ◌-◌, ◌*◌, ◌^◌, ◌<◌, ◌≤◌, true, false, cond, ltb, leb, List, [], ◌∷◌, length, get_or, take, drop, ℤ, pos, ◌+ℤ◌, ◌*ℤ◌, Some, None, Option, IfOk, Ok, Err, Result, sym, refl, ap, ◌∙◌, subst, ⊎_elim, mul-le-mul_right, mul_assoc, mul_comm, one-mul, pow-suc, mul-one, min, Iter, Bor, arith, w64, SFits, to_z, of_z}
 use native.Mathlib.Nat.{pow-zero}
-use Rattle.std.proofs.lemmas.List.{at_drop_more, at_drop_all}
+use Rattle.std.proofs.lemmas.List.{at_drop_more, at_drop_all, length-take, get_or-take, get_or_default}
+use Rattle.std.proofs.lemmas.List.FromFn.{get_or-enumerate_from, length-enumerate_from}
 use Rattle.std.proofs.lemmas.Int.{to_z_pos}
 use Rattle.std.proofs.lemmas.Bool.{cases_lt, cond_both, leb-true, leb-false, and_parts}
 use Rattle.std.proofs.lemmas.Bool.Decides.{nat_tests}
+use Rattle.std.proofs.iter.Yields.{fronts}
+use Rattle.std.proofs.lemmas.Iterator.{YieldsList, YieldsList-from_slice, YieldsList-from_take}
+use Rattle.std.proofs.lemmas.Iterator.Consumers.{YieldsList-from_enumerate, YieldsList-turn, YieldsList-end}
+use Rattle.std.specs.declared.iter.Enumerate.{Enumerate}
+use Rattle.std.specs.declared.iter.Take.{Take}
+use Rattle.std.specs.Iterator.{Yields}
+use Rattle.std.specs.Iterator.Adapters.{enumerate_source, enumerate_count, enumerate_steps, take_source, take_count, take_steps}
+use Rattle.std.specs.List.{enumerate_from}
+use Rattle.std.specs.Option.{SomeIff, MatchOption}
+use Rattle.std.specs.Slice.Iter.{iter_rest}
 use Rattle.std.specs.Str.Parse.{AllDigits, digits_value_after}
 use Rattle.std.specs.Char.{is_ascii_digit, digit_value as digitValue}
 use Rattle.scan.specs.declared.kind.ParseErrorKind.{ParseErrorKind}
@@ -26,11 +37,11 @@ one_more : (lo hi v i : ℕ) (s : List ℕ) → i < length s
     (cond (ltb i lo) (Err Invalid) (Ok (v, i))))
 one_more lo hi v i s h = at_drop_more (numeral_from lo hi v i) s i 0 h
 
-pub no_more : (lo hi v i : ℕ) (s : List ℕ) → length s ≤ i → numeral_from lo hi v i (drop i s) ≡ Ok (v, i)
+no_more : (lo hi v i : ℕ) (s : List ℕ) → length s ≤ i → numeral_from lo hi v i (drop i s) ≡ Ok (v, i)
 no_more lo hi v i s h = at_drop_all (numeral_from lo hi v i) s i h
 
 module _ (lo hi v i : ℕ) (s : List ℕ) (l : i < length s) where
-  pub at_most : hi ≤ i → numeral_from lo hi v i (drop i s) ≡ Ok (v, i)
+  at_most : hi ≤ i → numeral_from lo hi v i (drop i s) ≡ Ok (v, i)
   at_most h = one_more lo hi v i s l ∙ grind (arith, nat_tests)
 
   module _ (h : i < hi) where
@@ -165,21 +176,62 @@ number_written lo hi s = written_integer hi s (numeral_at lo hi s) (numeral_more
 
 -- ---- a number that grows by a digit, in 64 bits
 -- it fits exactly if it is at most the largest
-pub over : (z : ℤ) (m : ℕ) → z ≡ pos m → (SFits w64 z → ⊥) → largest < m
+over : (z : ℤ) (m : ℕ) → z ≡ pos m → (SFits w64 z → ⊥) → largest < m
 over z m e f = ⊎_elim (λ l. absurd (f (rw e (record { sfits = l })))) (λ l. omega arith) (cases_lt m (2 ^ 63))
 
-pub under : (z : ℤ) (m : ℕ) → z ≡ pos m → SFits w64 z → m ≤ largest
+under : (z : ℤ) (m : ℕ) → z ≡ pos m → SFits w64 z → m ≤ largest
 under z m e f = let g : SFits w64 (pos m) = rw e at f in omega (arith, g.sfits)
 
-pub tenfold : (n : ℤ) (v : ℕ) → n ≡ pos v → n *ℤ pos 10 ≡ pos (v * 10)
+tenfold : (n : ℤ) (v : ℕ) → n ≡ pos v → n *ℤ pos 10 ≡ pos (v * 10)
 tenfold n v e = rw e refl
 
-pub added : (n t : ℤ) (v d : ℕ) → n ≡ pos v → SFits w64 (n *ℤ pos 10) × (t ≡ n *ℤ pos 10) → d < 10
-    → to_z w64 (of_z w64 t) +ℤ to_z w64 d ≡ pos (v * 10 + d)
-added n t v d e f l =
+added : (n t : ℤ) (v d : ℕ) → n ≡ pos v → SFits w64 (n *ℤ pos 10) × (t ≡ n *ℤ pos 10) → to_z w64 (of_z w64 t) +ℤ pos d ≡ pos (v * 10 + d)
+added n t v d e f =
     let t' : t ≡ pos (v * 10) = f.1 ∙ tenfold n v e in
     let m = under _ _ (tenfold n v e) f.0 in
-    rw (t', to_z_pos w64 (v * 10) (omega arith), to_z_pos w64 d (omega arith)) refl
+    rw (t', to_z_pos w64 (v * 10) (omega arith)) refl
+
+-- ten times the number, if that fits, and then the digit, if that fits
+pub grown : (n : ℤ) (v d : ℕ) (m r : Option ℤ) → n ≡ pos v → SomeIff m (SFits w64 (n *ℤ pos 10)) (n *ℤ pos 10)
+    → MatchOption m (r ≡ None) (λ t. SomeIff r (SFits w64 (to_z w64 (of_z w64 t) +ℤ pos d)) (to_z w64 (of_z w64 t) +ℤ pos d))
+    → MatchOption r (largest < v * 10 + d) (λ t. (t ≡ pos (v * 10 + d)) × (v * 10 + d ≤ largest))
+grown n v d None None e f g = let p = over _ _ (tenfold n v e) f in omega arith
+grown n v d None (Some t) e f g = absurd (let q : ◌≡◌ {A = ℕ} 0 1 = cc in omega arith)
+grown n v d (Some x) None e f g = over _ _ (added n x v d e f) g
+grown n v d (Some x) (Some t) e f g = let z = added n x v d e f in (g.1 ∙ z, under _ _ z g.0)
+
+-- ---- the bytes that are read, and their places
+module _ (hi : ℕ) (s : List ℕ) where
+  length_read : length (enumerate_from 0 (take hi s)) ≡ min hi (length s)
+  length_read = length-enumerate_from 0 (take hi s) ∙ length-take hi s
+
+  one_read : (k : ℕ) (p : ℕ × ℕ) → k < min hi (length s) → p ≡ get_or (enumerate_from 0 (take hi s)) k p → (p.0 ≡ k) × (p.1 ≡ get_or s k 0)
+  one_read k p l h =
+      let t = length-take hi s in
+      let e : p ≡ (0 + k, get_or (take hi s) k p.1) = h ∙ get_or-enumerate_from 0 (take hi s) k p (omega arith) in
+      let f : p.0 ≡ 0 + k = ap (λ x. x.0) e in
+      (omega arith, ap (λ x. x.1) e ∙ (get_or-take hi s k p.1 (omega arith) ∙ get_or_default s k p.1 0 (omega arith)))
+
+  -- an iterator of the first hi bytes, with their places, and what it has yielded
+  module _ (start now : Enumerate (Take (Iter ℕ))) (ys : List (ℕ × Bor ℕ))
+      (rest : iter_rest (take_source (enumerate_source start)) ≡ s) (most : take_count (enumerate_source start) ≡ hi) (first : enumerate_count start ≡ 0)
+      (so_far : Yields (enumerate_steps (take_steps fronts)) start ys now) where
+    yields : YieldsList (enumerate_steps (take_steps fronts)) (λ p. (p.0, p.1.now)) start (enumerate_from 0 (take hi s))
+    yields = YieldsList-from_enumerate (YieldsList-from_take hi (YieldsList-from_slice s rest) most) first
+
+    pub read : (r : Option (ℕ × Bor ℕ)) (next : Enumerate (Take (Iter ℕ))) (p : ℕ × Bor ℕ) → r ≡ Some p → enumerate_steps (take_steps fronts) now r next
+        → (length ys < length s) × (length ys < hi) × (p.0 ≡ length ys) × (p.1.now ≡ get_or s (length ys) 0)
+    read r next p e t =
+        let y = YieldsList-turn yields ys now so_far r next p e t in
+        let l = length_read in
+        let o = one_read (length ys) (p.0, p.1.now) (omega (arith, y.0)) y.1 in
+        (omega (arith, y.0), omega (arith, y.0), o.0, o.1)
+
+    pub all_read : (r : Option (ℕ × Bor ℕ)) (next : Enumerate (Take (Iter ℕ))) → r ≡ None → enumerate_steps (take_steps fronts) now r next → length ys ≡ min hi (length s)
+    all_read r next e t = (YieldsList-end yields ys now so_far r next e t).1 ∙ length_read
+
+pub at_end : (lo hi v k : ℕ) (s : List ℕ) → k ≡ min hi (length s) → numeral_from lo hi v k (drop k s) ≡ Ok (v, k)
+at_end lo hi v k s e = ⊎_elim (λ h. at_most lo hi v k s h (omega arith)) (λ h. no_more lo hi v k s (omega arith)) (cases_lt k (length s))
 
 -- ---- the loop: after i bytes the digits' value is v, and what is left gives the whole result
 module _ (lo hi : ℕ) (s : List ℕ) (l : lo ≤ length s) (z : ℤ) (i : ℕ)

@@ -57,11 +57,10 @@ fraction_err lo hi s d e = then_err (numeral_at lo hi s) _ d (as_err (numeral_at
 
 -- digits are ASCII
 digits_cut : (s : List ℕ) → Cut s (digits_at s)
-unfolding digits_at
 digits_cut [] = cut_none []
 digits_cut (b ∷ bs) =
-    cond_both (is_ascii_digit b) (digits_at bs + 1) 0 (λ k. Cut (b ∷ bs) k)
-    (λ d. let g = digit_is b d in subst (λ k. Cut (b ∷ bs) k) (omega arith) (cut_cons b bs (digits_at bs) (omega arith) (digits_cut bs))) (λ _. cut_none (b ∷ bs))
+    cond_both (is_ascii_digit b) (1 + digits_at bs) 0 (λ k. Cut (b ∷ bs) k)
+    (λ d. let g = digit_is b d in cut_cons b bs (digits_at bs) (omega arith) (digits_cut bs)) (λ _. cut_none (b ∷ bs))
 
 pub nanosecond_ok : (s rest : List ℕ) (v n k : ℕ) → Ok (v, n) ≡ fraction_at 1 9 s → Cut s n → rest ≡ drop n s → k ≡ digits_at rest
     → (Ok (v, n + k) ≡ nanosecond_at s) × Cut s (n + k)

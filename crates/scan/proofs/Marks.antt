@@ -2,7 +2,7 @@
 use Rattle.std.proofs.Common.{ℕ, ◌<◌, eqb, List, [], ◌∷◌, Ok, Err, arith}
 use Rattle.std.proofs.lemmas.Bool.{cond_both, eqb-true}
 use Rattle.scan.specs.declared.kind.ParseErrorKind.TheVariants.{Invalid}
-use Rattle.scan.specs.Singles.{char_at, space_at}
+use Rattle.scan.specs.Singles.{char_at}
 use Rattle.scan.specs.Steps.{CutsMark}
 use Rattle.text.specs.Chars.{blank, blanks_at}
 use Rattle.text.specs.Cuts.{Cut}
@@ -19,9 +19,3 @@ char_cut c [] h = tt
 char_cut c (b ∷ bs) h =
     cond_both (eqb b c) (Ok 1) (Err Invalid) (CutsMark (b ∷ bs))
     (λ e. let q = eqb-true b c e in cut_after (b ∷ bs) 0 (omega arith) (omega arith)) (λ _. tt)
-
-pub space_cut : (s : List ℕ) → CutsMark s (space_at s)
-unfolding space_at
-space_cut [] = tt
-space_cut (b ∷ bs) =
-    cond_both (eqb (blanks_at (b ∷ bs)) 0) (Err Invalid) (Ok (blanks_at (b ∷ bs))) (CutsMark (b ∷ bs)) (λ _. tt) (λ _. blanks_cut (b ∷ bs))

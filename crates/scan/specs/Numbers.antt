@@ -1,5 +1,6 @@
 -- Digits in front: a number, a fraction of a second, a year of mail.
 use Rattle.std.specs.Prelude.{◌≡◌, ℕ, ◌+◌, ◌-◌, ◌*◌, ◌^◌, ◌<◌, ◌≤◌, Bool, cond, ◌&&◌, List, [], ◌∷◌, length, take, drop, ℤ, pos, ◌+ℤ◌, Ok, Err, Result, ◌==◌, int_le, nat_le, nat_lt}
+use Rattle.std.specs.List.{prefix_len}
 use Rattle.std.specs.Str.Parse.{AllDigits, digits_value}
 use Rattle.std.specs.Char.{is_ascii_digit}
 use Rattle.scan.specs.declared.kind.ParseErrorKind.{ParseErrorKind}
@@ -41,9 +42,8 @@ pub record Written (most : ℕ) (s : List ℕ) (z : ℤ) (n : ℕ) : Type 0 wher
   pub few : n ≤ most
 
 -- how many digits stand in front
-unfoldable pub digits_at : List ℕ → ℕ
-digits_at [] = 0
-digits_at (b ∷ bs) = cond (is_ascii_digit b) (digits_at bs + 1) 0
+abbrev pub digits_at : List ℕ → ℕ
+digits_at s = prefix_len is_ascii_digit s
 
 -- a fraction of a second of `least` to `most` digits, as nanoseconds: nine digits stand for them as they are
 unfoldable pub fraction_at : ℕ → ℕ → List ℕ → Result (ℕ × ℕ) ParseErrorKind

@@ -16,10 +16,7 @@ pub fn number(s: &[u8], min: usize, max: usize) -> Result<(i64, usize), ParseErr
         return Err(ParseErrorKind::TooShort);
     }
     let mut n: i64 = 0;
-    for (i, b) in s.iter().enumerate() {
-        if i >= max {
-            return Ok((n, i));
-        }
+    for (i, b) in s.iter().take(max).enumerate() {
         if !b.is_ascii_digit() {
             return if i < min {
                 Err(ParseErrorKind::Invalid)
@@ -27,15 +24,12 @@ pub fn number(s: &[u8], min: usize, max: usize) -> Result<(i64, usize), ParseErr
                 Ok((n, i))
             };
         }
-        let Some(tens) = n.checked_mul(10) else {
-            return Err(ParseErrorKind::OutOfRange);
-        };
-        let Some(sum) = tens.checked_add((*b - b'0') as i64) else {
-            return Err(ParseErrorKind::OutOfRange);
-        };
-        n = sum;
+        n = n
+            .checked_mul(10)
+            .and_then(|n| n.checked_add(i64::from(*b - b'0')))
+            .ok_or(ParseErrorKind::OutOfRange)?;
     }
-    Ok((n, s.len()))
+    Ok((n, s.len().min(max)))
 }
 
 // How many digits stand in front.
@@ -43,12 +37,7 @@ fn digits(s: &[u8]) -> usize
     ensures value { result ≡ digits_at s.now }
     ensures within { result ≤ length s.now }
 {
-    for (i, b) in s.iter().enumerate() {
-        if !b.is_ascii_digit() {
-            return i;
-        }
-    }
-    s.len()
+    s.iter().take_while(|b| b.is_ascii_digit()).count()
 }
 
 // By how much a fraction of so many digits is scaled to nanoseconds.
@@ -89,9 +78,9 @@ pub fn nanosecond(s: &[u8]) -> Result<(u32, usize), ParseErrorKind>
 // How many digits a fraction has: those of milliseconds, microseconds or nanoseconds.
 #[derive(Clone, Copy, PartialEq, Eq, Debug)]
 pub enum Precision {
-    Milli,
-    Micro,
-    Nano,
+    Milli = 3,
+    Micro = 6,
+    Nano = 9,
 }
 
 impl Precision {
@@ -99,11 +88,7 @@ impl Precision {
         ensures value { result ≡ digits_of self }
         ensures bound { result ≤ 9 }
     {
-        match self {
-            Precision::Milli => 3,
-            Precision::Micro => 6,
-            Precision::Nano => 9,
-        }
+        self as usize
     }
 }
 

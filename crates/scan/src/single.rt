@@ -22,10 +22,8 @@ pub fn space(s: &[u8]) -> Result<usize, ParseErrorKind>
     ensures value { result ≡ space_at s.now }
     ensures cut { CutsMark s.now result }
 {
-    if s.is_empty() {
-        return Err(ParseErrorKind::TooShort);
-    }
     match text::blanks(s) {
+        0 if s.is_empty() => Err(ParseErrorKind::TooShort),
         0 => Err(ParseErrorKind::Invalid),
         n => Ok(n),
     }

@@ -1,11 +1,10 @@
-use Rattle.std.proofs.cmp.Tests.{cases_from_iff}
-use Rattle.std.proofs.Common.{◌∙◌, rules}
-use Rattle.std.proofs.lemmas.Bool.{lt-leb}
-use Rattle.names.proofs.Alike.{begins_by, begins_short}
+use Rattle.std.proofs.Common.{◌≡◌, ◌↔◌, map, false, IsTrue, rules}
+use Rattle.std.specs.Char.{to_ascii_lowercase}
+use Rattle.std.specs.Option.{MatchOption}
+use Rattle.names.proofs.Alike.{begins_by}
 use Rattle.names.proofs.names.begins.Goals as goal
 
-pub returns-then-s-word : goal.returns-then-s-word
-returns-then-s-word c = begins_by c.args.word.now c.args.s.now _ _ (search rules) (cases_from_iff c.eq_ignore_ascii_case.ensures.test)
-
-pub returns-else-s-word : goal.returns-else-s-word
-returns-else-s-word c = lt-leb _ _ c.if-s-word.false ∙ begins_short c.args.word.now c.args.s.now c.if-s-word.false
+pub returns : goal.returns
+returns c =
+    let a : MatchOption c.get.result (c.is_some_and.result ≡ false) (λ t. IsTrue c.is_some_and.result ↔ (map to_ascii_lowercase t.now ≡ map to_ascii_lowercase c.args.word.now)) = search rules in
+    begins_by c.args.word.now c.args.s.now c.get.result c.is_some_and.result c.get.ensures.lookup a

@@ -1,21 +1,19 @@
-use Rattle.std.proofs.Common.{◌≡◌, Ok, Err, ap, ◌∙◌}
+use Rattle.std.proofs.Common.{Ok, ap, ◌∙◌}
 use Rattle.std.proofs.lemmas.Result.{err_from_is_err_and}
-use Rattle.scan.proofs.Leaves.{cuts_by, exits}
-use Rattle.names.specs.Names.{short_weekday_at}
-use Rattle.names.proofs.Taken.{short_weekday_cut}
-use Rattle.names.proofs.Values.{short_weekday_by, day_by}
+use Rattle.scan.proofs.Leaves.{exits, then_ok, then_err}
+use Rattle.names.specs.Names.{day_names, short_at, short_weekday_at}
+use Rattle.names.specs.Days.{weekday_of}
+use Rattle.names.proofs.Values.{day_by}
 use Rattle.names.proofs.names.short_weekday.Goals as goal
 
-pub returns-in_err-i : goal.returns-in_err-i
-returns-in_err-i c =
+pub returns-in_err-i-clause-value : goal.returns-in_err-i-clause-value
+unfolding short_weekday_at
+returns-in_err-i-clause-value c =
     let p = err_from_is_err_and c.from_residual.result c.from_residual.ensures.1 in
-    let v : c.from_residual.result ≡ short_weekday_at c.args.s.now
-    = exits _ _ _ _ p.1 p.2 (short_weekday_by c.args.s.now (Err c.in_err-i.field-0.0) c.in_err-i.ensures.value) in
-    record { value = v; cut = cuts_by _ _ _ v (short_weekday_cut c.args.s.now) }
+    exits _ _ _ _ p.1 p.2 (then_err (short_at day_names c.args.s.now) _ _ c.in_err-i.ensures.value)
 
-pub returns : goal.returns
-returns c =
-    let v : Ok (c.in_ok-day.day, 3) ≡ short_weekday_at c.args.s.now
-    = ap (λ d. Ok (d, 3)) (day_by c.in_ok-day.day c.in_ok-i.i c.in_ok-day.ensures)
-    ∙ short_weekday_by c.args.s.now (Ok c.in_ok-i.i) c.in_ok-i.ensures.value in
-    record { value = v; cut = cuts_by _ _ _ v (short_weekday_cut c.args.s.now) }
+pub returns-clause-value : goal.returns-clause-value
+unfolding short_weekday_at
+returns-clause-value c =
+    ap (λ d. Ok (d, 3)) (day_by c.in_ok-try_from.field-0 c.in_ok-i.i c.in_ok-try_from.ensures)
+    ∙ then_ok (short_at day_names c.args.s.now) (λ i. Ok (weekday_of i, 3)) c.in_ok-i.i c.in_ok-i.ensures.value

@@ -1,69 +1,92 @@
-use Rattle.std.proofs.Common.{◌≡◌, ◌+◌, ◌-◌, ◌*◌, length, get_or, pos, sym, refl, ◌∙◌, arith, w64}
+use Rattle.std.proofs.Common.{◌≡◌, ◌+◌, ◌-◌, ◌*◌, ◌<◌, ◌≤◌, length, get_or, ℤ, pos, true, false, Err, Result, None, sym, refl, ap, ◌∙◌, arith, ◌+ℤ◌, w64, SFits, to_z, of_z, rules}
+use Rattle.std.specs.Option.{SomeIff, MatchOption}
 use Rattle.std.proofs.lemmas.Int.{to_z_pos}
+use Rattle.std.proofs.lemmas.List.{length_push}
+use Rattle.std.specs.Char.{is_ascii_digit}
+use Rattle.std.specs.Option.{ok_or}
+use Rattle.std.proofs.lemmas.Result.{err_from_is_err_and, IfOk-from_err}
+use Rattle.scan.specs.declared.kind.ParseErrorKind.{ParseErrorKind}
+use Rattle.scan.specs.Numbers.{largest}
 use Rattle.scan.specs.declared.kind.ParseErrorKind.TheVariants.{OutOfRange, Invalid}
-use Rattle.scan.proofs.Digits.{no_more, too_short, at_most, none_yet, enough, too_large, goes_on, says_ok, says_err, number_cut, number_written, over, under, tenfold, added, digit_is}
-use Rattle.scan.proofs.Leaves.{cuts_by, made_by}
+use Rattle.scan.proofs.Digits.{read, all_read, at_end, too_short, none_yet, enough, too_large, goes_on, says_ok, says_err, number_cut, number_written, grown}
+use Rattle.scan.proofs.Leaves.{cuts_by, made_by, exits}
 use Rattle.scan.proofs.number.number.Goals as goal
 
 pub returns-then-s-min : goal.returns-then-s-min
 returns-then-s-min c = record { value = too_short c.args.min c.args.max c.args.s.now c.if-s-min.true; cut = tt; written = tt }
 
-pub returns-then-i-max : goal.returns-then-i-max
-returns-then-i-max c =
-    let v = says_ok c.args.min c.args.max c.args.s.now c.if-s-min.false _ c.loop-i.i c.loop-i.invariant (at_most c.args.min c.args.max c.loop-i.invariant.0 c.loop-i.i c.args.s.now c.loop-i-test.true c.if-i-max.true) in
-    record {
-      value = v;
-      cut = cuts_by _ _ _ v (number_cut c.args.min c.args.max c.args.s.now);
-      written = made_by _ _ _ v (number_written c.args.min c.args.max c.args.s.now);
-    }
-
 pub returns-then-i-min : goal.returns-then-i-min
 returns-then-i-min c =
-    record { value = says_err c.args.min c.args.max c.args.s.now c.if-s-min.false _ c.loop-i.i c.loop-i.invariant Invalid (none_yet c.args.min c.args.max c.loop-i.invariant.0 c.loop-i.i c.args.s.now c.loop-i-test.true c.if-i-max.false (sym c.if-not-is_ascii_digit.ensures.value) c.if-i-min.true); cut = tt; written = tt }
+    let k = length c.loop-i.yielded in
+    let v = c.loop-i.invariant.0 in
+    let t = read c.args.max c.args.s.now c.into_iter-i-iterator.result c.loop-i.i-iterator c.loop-i.yielded (search rules) (search rules) (search rules) c.loop-i.yielded_by _ _ (c.in-Some.i, c.in-Some.b) c.in-Some.is c.next.ensures.steps in
+    let q : is_ascii_digit (get_or c.args.s.now k 0) ≡ false = ap is_ascii_digit (sym t.3) ∙ sym c.if-not-is_ascii_digit.ensures.value in
+    let i = c.if-i-min.true in
+    record {
+      value = says_err c.args.min c.args.max c.args.s.now c.if-s-min.false _ k c.loop-i.invariant Invalid (none_yet c.args.min c.args.max v k c.args.s.now t.0 t.1 q (omega arith));
+      cut = tt;
+      written = tt;
+    }
 
 pub returns-else-i-min : goal.returns-else-i-min
 returns-else-i-min c =
-    let v = says_ok c.args.min c.args.max c.args.s.now c.if-s-min.false _ c.loop-i.i c.loop-i.invariant (enough c.args.min c.args.max c.loop-i.invariant.0 c.loop-i.i c.args.s.now c.loop-i-test.true c.if-i-max.false (sym c.if-not-is_ascii_digit.ensures.value) c.if-i-min.false) in
+    let k = length c.loop-i.yielded in
+    let v = c.loop-i.invariant.0 in
+    let t = read c.args.max c.args.s.now c.into_iter-i-iterator.result c.loop-i.i-iterator c.loop-i.yielded (search rules) (search rules) (search rules) c.loop-i.yielded_by _ _ (c.in-Some.i, c.in-Some.b) c.in-Some.is c.next.ensures.steps in
+    let q : is_ascii_digit (get_or c.args.s.now k 0) ≡ false = ap is_ascii_digit (sym t.3) ∙ sym c.if-not-is_ascii_digit.ensures.value in
+    let i = c.if-i-min.false in
+    let e = rw (← t.2) at (says_ok c.args.min c.args.max c.args.s.now c.if-s-min.false _ k c.loop-i.invariant (enough c.args.min c.args.max v k c.args.s.now t.0 t.1 q (omega arith))) in
     record {
-      value = v;
-      cut = cuts_by _ _ _ v (number_cut c.args.min c.args.max c.args.s.now);
-      written = made_by _ _ _ v (number_written c.args.min c.args.max c.args.s.now);
+      value = e;
+      cut = cuts_by _ _ _ e (number_cut c.args.min c.args.max c.args.s.now);
+      written = made_by _ _ _ e (number_written c.args.min c.args.max c.args.s.now);
     }
 
-pub returns-in_default : goal.returns-in_default
-returns-in_default c =
-    let p = over _ _ (tenfold _ _ c.loop-i.invariant.1) c.in_default.ensures in
-    record { value = says_err c.args.min c.args.max c.args.s.now c.if-s-min.false _ c.loop-i.i c.loop-i.invariant OutOfRange (too_large c.args.min c.args.max c.loop-i.invariant.0 c.loop-i.i c.args.s.now c.loop-i-test.true c.if-i-max.false (sym c.if-not-is_ascii_digit.ensures.value) (omega arith)); cut = tt; written = tt }
-
-pub returns-in_default-checked_add : goal.returns-in_default-checked_add
-returns-in_default-checked_add c =
-    let d = get_or c.args.s.now c.loop-i.i 0 - 48 in
-    let g = digit_is (get_or c.args.s.now c.loop-i.i 0) (sym c.if-not-is_ascii_digit.ensures.value) in
-    let z = added _ c.in-Some.tens c.loop-i.invariant.0 d c.loop-i.invariant.1 c.in-Some.ensures (omega arith) in
-    let p = over _ _ z c.in_default-checked_add.ensures in
-    record { value = says_err c.args.min c.args.max c.args.s.now c.if-s-min.false _ c.loop-i.i c.loop-i.invariant OutOfRange (too_large c.args.min c.args.max c.loop-i.invariant.0 c.loop-i.i c.args.s.now c.loop-i-test.true c.if-i-max.false (sym c.if-not-is_ascii_digit.ensures.value) (omega arith)); cut = tt; written = tt }
+pub returns-in_err-n : goal.returns-in_err-n
+returns-in_err-n c =
+    let k = length c.loop-i.yielded in
+    let v = c.loop-i.invariant.0 in
+    let t = read c.args.max c.args.s.now c.into_iter-i-iterator.result c.loop-i.i-iterator c.loop-i.yielded (search rules) (search rules) (search rules) c.loop-i.yielded_by _ _ (c.in-Some.i, c.in-Some.b) c.in-Some.is c.next.ensures.steps in
+    let q : is_ascii_digit (get_or c.args.s.now k 0) ≡ true = ap is_ascii_digit (sym t.3) ∙ sym c.if-not-is_ascii_digit.ensures.value in
+    let d = c.in-Some.b.now - 48 in
+    let a : MatchOption c.checked_mul.result (c.and_then.result ≡ None) (λ x. SomeIff c.and_then.result (SFits w64 (to_z w64 (of_z w64 x) +ℤ pos d)) (to_z w64 (of_z w64 x) +ℤ pos d)) = search rules in
+    let g = grown _ v d _ c.and_then.result c.loop-i.invariant.1 c.checked_mul.ensures a in
+    let n = c.in_err-n.ensures in
+    let l : largest < v * 10 + d = rw n.ok_part at g in
+    let p = err_from_is_err_and c.from_residual.result c.from_residual.ensures.1 in
+    let o : ◌≡◌ {A = Result ℤ ParseErrorKind} (Err c.in_err-n.field-0.0) (Err OutOfRange) = n.value ∙ ap (λ r. ok_or r OutOfRange) n.ok_part in
+    let f : c.in_err-n.field-0.0 ≡ OutOfRange = cc in
+    let w = too_large c.args.min c.args.max v k c.args.s.now t.0 t.1 q (rw (← t.3) l) in
+    record {
+      value = exits _ _ p.0 OutOfRange p.1 (p.2 ∙ f) (says_err c.args.min c.args.max c.args.s.now c.if-s-min.false _ k c.loop-i.invariant OutOfRange w);
+      cut = IfOk-from_err _ _ c.from_residual.ensures.0;
+      written = IfOk-from_err _ _ c.from_residual.ensures.0;
+    }
 
 pub loop-i-preserved : goal.loop-i-preserved
 loop-i-preserved c =
-    let d = get_or c.args.s.now c.loop-i.i 0 - 48 in
-    let g = digit_is (get_or c.args.s.now c.loop-i.i 0) (sym c.if-not-is_ascii_digit.ensures.value) in
-    let z = added _ c.in-Some.tens c.loop-i.invariant.0 d c.loop-i.invariant.1 c.in-Some.ensures (omega arith) in
-    let f = c.in-Some-checked_add.ensures in
-    let p = under _ _ z f.0 in
-    let q : c.in-Some-checked_add.sum ≡ pos (c.loop-i.invariant.0 * 10 + d) = f.1 ∙ z in (
-      c.loop-i.invariant.0 * 10 + d,
-      rw (q, to_z_pos w64 (c.loop-i.invariant.0 * 10 + d) (omega arith)) refl,
-      p,
-      sym (goes_on c.args.min c.args.max c.loop-i.invariant.0 c.loop-i.i c.args.s.now c.loop-i-test.true c.if-i-max.false (sym c.if-not-is_ascii_digit.ensures.value) (omega arith)) ∙ c.loop-i.invariant.3,
-    )
+    let k = length c.loop-i.yielded in
+    let v = c.loop-i.invariant.0 in
+    let t = read c.args.max c.args.s.now c.into_iter-i-iterator.result c.loop-i.i-iterator c.loop-i.yielded (search rules) (search rules) (search rules) c.loop-i.yielded_by _ _ (c.in-Some.i, c.in-Some.b) c.in-Some.is c.next.ensures.steps in
+    let q : is_ascii_digit (get_or c.args.s.now k 0) ≡ true = ap is_ascii_digit (sym t.3) ∙ sym c.if-not-is_ascii_digit.ensures.value in
+    let d = c.in-Some.b.now - 48 in
+    let a : MatchOption c.checked_mul.result (c.and_then.result ≡ None) (λ x. SomeIff c.and_then.result (SFits w64 (to_z w64 (of_z w64 x) +ℤ pos d)) (to_z w64 (of_z w64 x) +ℤ pos d)) = search rules in
+    let g = grown _ v d _ c.and_then.result c.loop-i.invariant.1 c.checked_mul.ensures a in
+    let n = c.in_ok-n.ensures in
+    let l : (c.in_ok-n.n ≡ pos (v * 10 + d)) × (v * 10 + d ≤ largest) = rw n.ok_part at g in
+    let w = goes_on c.args.min c.args.max v k c.args.s.now t.0 t.1 q (rw (← t.3) l.1) in
+    let m = length_push c.loop-i.yielded (c.in-Some.i, c.in-Some.b) in
+    (v * 10 + d, rw (l.0, to_z_pos w64 (v * 10 + d) (omega (arith, l.1))) refl, l.1, rw (m, t.3) (sym w ∙ c.loop-i.invariant.3))
 
 pub returns : goal.returns
 returns c =
-    let e = no_more c.args.min c.args.max c.loop-i.invariant.0 c.loop-i.i c.args.s.now c.loop-i-test.false in
-    let l : c.loop-i.i ≡ length c.args.s.now = omega arith in
-    let v = rw l at (says_ok c.args.min c.args.max c.args.s.now c.if-s-min.false _ c.loop-i.i c.loop-i.invariant e) in
+    let k = length c.loop-i.yielded in
+    let a = all_read c.args.max c.args.s.now c.into_iter-i-iterator.result c.loop-i.i-iterator c.loop-i.yielded (search rules) (search rules) (search rules) c.loop-i.yielded_by _ _ c.in-None.is c.next.ensures.steps in
+    let b = c.min.ensures in
+    let m : k ≡ c.min.result = omega arith in
+    let e = rw m at (says_ok c.args.min c.args.max c.args.s.now c.if-s-min.false _ k c.loop-i.invariant (at_end c.args.min c.args.max c.loop-i.invariant.0 k c.args.s.now a)) in
     record {
-      value = v;
-      cut = cuts_by _ _ _ v (number_cut c.args.min c.args.max c.args.s.now);
-      written = made_by _ _ _ v (number_written c.args.min c.args.max c.args.s.now);
+      value = e;
+      cut = cuts_by _ _ _ e (number_cut c.args.min c.args.max c.args.s.now);
+      written = made_by _ _ _ e (number_written c.args.min c.args.max c.args.s.now);
     }

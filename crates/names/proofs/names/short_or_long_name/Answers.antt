@@ -1,0 +1,32 @@
+use Rattle.std.proofs.Common.{sym, subst}
+use Rattle.std.proofs.lemmas.List.{length-map}
+use Rattle.std.proofs.lemmas.Result.{err_from_is_err_and}
+use Rattle.scan.proofs.Leaves.{exits, then_err}
+use Rattle.text.specs.Cuts.{Cut}
+use Rattle.names.specs.Names.{texts, short_or_long_at}
+use Rattle.names.proofs.Taken.{taken_cut}
+use Rattle.names.proofs.Values.{all_taken, three_taken, with_taken}
+use Rattle.names.proofs.names.short_or_long_name.Goals as goal
+
+pub returns-in_err-i-clause-value : goal.returns-in_err-i-clause-value
+unfolding short_or_long_at
+returns-in_err-i-clause-value c =
+    let p = err_from_is_err_and c.from_residual.result c.from_residual.ensures.1 in
+    exits _ _ _ _ p.1 p.2 (then_err _ _ _ c.in_err-i.ensures.value)
+
+pub returns-then-begins : goal.returns-then-begins
+returns-then-begins c =
+    let ns = texts c.args.names.now in
+    let i = c.in_ok-i.i in
+    let e = c.in_ok-i.ensures in
+    let t = all_taken c.args.names.now i _ c.args.s.now e.within c.if-begins.ensures in
+    record {
+      value = with_taken ns c.args.s.now i _ e.value t;
+      cut = subst (λ k. Cut c.args.s.now k) (sym t) (taken_cut ns c.requires i (rw (length-map c.args.names.now (λ x. x.now)) e.within) c.args.s.now e.cut);
+      within = e.within;
+    }
+
+pub returns-else-begins-clause-value : goal.returns-else-begins-clause-value
+returns-else-begins-clause-value c =
+    let e = c.in_ok-i.ensures in
+    with_taken (texts c.args.names.now) c.args.s.now c.in_ok-i.i 3 e.value (three_taken c.args.names.now c.in_ok-i.i _ c.args.s.now e.within c.if-begins.ensures)
