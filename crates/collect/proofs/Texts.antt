@@ -1,10 +1,9 @@
 -- Texts that are written one after another.
-use Rattle.std.proofs.Common.{◌≡◌, ℕ, true, false, eqb, List, [], ◌∷◌, ◌++◌, length, codes, sym, refl, ap, ◌∙◌, append_assoc, append-nil}
+use Rattle.std.proofs.Common.{◌≡◌, ℕ, List, [], ◌∷◌, ◌++◌, codes, sym, refl, ap, ◌∙◌, append_assoc, append-nil}
 use Rattle.std.proofs.Output.{has_written_append, has_written_of_eq, has_written_to_eq}
-use Rattle.std.proofs.lemmas.Bool.{both_ways}
 use Rattle.std.specs.Fmt.{IsPlainFormatter, HasWritten}
 use Rattle.std.specs.declared.fmt.Formatter.{Formatter}
-use Rattle.collect.specs.Shown.{spaced, listed}
+use Rattle.collect.specs.Shown.{spaced}
 
 pub spaced_more : (xs : List (List ℕ)) (x : List ℕ) → spaced (xs ++ x ∷ []) ≡ spaced xs ++ (codes " " ++ x)
 spaced_more [] x = ap (λ l. codes " " ++ l) (append-nil x)
@@ -29,14 +28,6 @@ line_more (y ∷ xs) x = append_assoc y (spaced xs) (codes " " ++ x) ∙ sym (ap
 gap_more : (xs : List (List ℕ)) (x : List ℕ) → codes " " ≡ gap (xs ++ x ∷ [])
 gap_more [] x = refl
 gap_more (y ∷ xs) x = refl
-
-pub whole_line : (blank : List ℕ) (xs : List (List ℕ)) → blank ≡ gap xs → false ≡ eqb (length blank) 0 → line xs ≡ listed xs
-whole_line blank [] q h = absurd (both_ways false refl (h ∙ ap (λ l. eqb (length l) 0) q))
-whole_line blank (x ∷ xs) q h = refl
-
-pub no_line : (blank : List ℕ) (xs : List (List ℕ)) → blank ≡ gap xs → true ≡ eqb (length blank) 0 → line xs ++ codes "empty" ≡ listed xs
-no_line blank [] q h = refl
-no_line blank (x ∷ xs) q h = absurd (both_ways true (h ∙ ap (λ l. eqb (length l) 0) q) refl)
 
 module _ {W : Type 0} (took : W → List ℕ → W → Type 0) (f : Formatter W) where
   -- the texts xs are written, and `blank` goes before one more

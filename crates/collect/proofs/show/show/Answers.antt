@@ -1,20 +1,19 @@
 -- Each turn writes the value of one field, if it has one.
-use Rattle.std.proofs.Common.{◌≡◌, ℕ, ◌+◌, ◌<◌, ◌≤◌, true, List, [], ◌∷◌, ◌++◌, get_or, take, ℤ, Some, None, codes, Option, sym, refl, ap, ◌∙◌, append-nil, w64, SFits, to_z, of_z, rules}
+use Rattle.std.proofs.Common.{◌≡◌, ℕ, ◌+◌, ◌<◌, true, List, [], ◌∷◌, ◌++◌, get_or, take, ℤ, Some, None, codes, Option, sym, refl, ap, ◌∙◌, append-nil, w64, SFits, to_z, of_z, rules}
 use lib.Utf8.{encode}
 use denote.Shadow.{shadow}
 use denote.Text.{Utf8}
-use Rattle.std.proofs.Output.{writes_in_calls_nil, has_written_append, has_written_of_eq}
-use Rattle.std.proofs.lemmas.List.{take_all, take_more, flat_map_more}
+use Rattle.std.proofs.lemmas.List.{take_more, flat_map_more}
 use Rattle.std.proofs.lemmas.Int.{to_z-of_z}
 use Rattle.std.specs.List.{flat_map}
 use Rattle.std.specs.Fmt.{signed_decimal}
 use Rattle.collect.specs.Fields.{field_number, field_name}
-use Rattle.collect.specs.Shown.{fields, text_of, held_text, listed, record_text}
+use Rattle.collect.specs.Shown.{fields, text_of, held_text}
 use Rattle.collect.specs.Tables.{Table}
 use Rattle.collect.specs.declared.field.Field.{Field}
 use Rattle.collect.specs.declared.field.Field.TheVariants.{Year}
 use Rattle.collect.proofs.Ranges.{label_field}
-use Rattle.collect.proofs.Texts.{line, whole_line, no_line, one_more, moved}
+use Rattle.collect.proofs.Texts.{one_more, moved}
 use Rattle.collect.proofs.show.show.Goals as goal
 use Rattle.collect.proofs.show.show.Goals.{in-Some+in_ok-write, in_default}
 
@@ -43,15 +42,9 @@ next_some t i n v u h q s e =
 next_none : (t : Table ℤ) (i n : ℕ) → i < 21 → n ≡ number i → None ≡ t n → texts t i ≡ texts t (i + 1)
 next_none t i n h q e = sym (append-nil (texts t i)) ∙ next t i n None h q e
 
-all : (t : Table ℤ) (i : ℕ) → 21 ≤ i → listed (texts t i) ≡ record_text t
-all t i h = ap (λ xs. listed (flat_map (held_text t) xs)) (take_all i fields h)
-
 is_text : (b : List ℕ) → b ≡ codes " " → shadow (Utf8 b)
 unfolding encode
 is_text b e = (codes " ", (refl, sym e))
-
-pub loop-field-init : goal.loop-field-init
-loop-field-init g c = (([], (refl, refl)), (refl, λ p. record { wrote = writes_in_calls_nil g.W.Write.write_str_gives c.args.f.now.writer; plain = p }))
 
 pub loop-field-preserved : goal.loop-field-preserved
 loop-field-preserved g c =
@@ -80,20 +73,3 @@ loop-field-preserved g c =
             moved took f c.loop-field.blank.now c.match-ask.blank.now c.loop-field.f c.match-ask.f xs ys b w.f-is e c.loop-field.invariant.1,
           )
     ]
-
-pub returns-then-is_empty : goal.returns-then-is_empty
-returns-then-is_empty g c = λ p ok.
-    let t = g.C.Collector.table c.args.c.now in
-    let i = c.loop-field.field-index in
-    let y = c.loop-field.invariant.1 in
-    let x = y.1 p in
-    has_written_of_eq g.W.Write.write_str_gives c.args.f.now (line (texts t i) ++ codes "empty") (record_text t) c.write_str.new.self (no_line c.loop-field.blank.now (texts t i) y.0 c.if-is_empty.ensures ∙ all t i c.loop-field-test.false)
-    (has_written_append g.W.Write.write_str_gives c.args.f.now (line (texts t i)) c.loop-field.f (codes "empty") c.write_str.new.self x (c.write_str.ensures.writes x.plain ok))
-
-pub returns-else-is_empty : goal.returns-else-is_empty
-returns-else-is_empty g c = λ p ok.
-    let t = g.C.Collector.table c.args.c.now in
-    let i = c.loop-field.field-index in
-    let y = c.loop-field.invariant.1 in
-    has_written_of_eq g.W.Write.write_str_gives c.args.f.now (line (texts t i)) (record_text t) c.loop-field.f (whole_line c.loop-field.blank.now (texts t i) y.0 c.if-is_empty.ensures ∙ all t i c.loop-field-test.false)
-    (y.1 p)
