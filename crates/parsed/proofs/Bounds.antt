@@ -1,19 +1,12 @@
 -- The values of each field fit the type that it is kept in.
-use Rattle.std.proofs.Common.{◌≡◌, true, ℤ, pos, negsuc, ◌≤ℤ◌, sym, subst, arith}
+use Rattle.std.proofs.Common.{◌≡◌, true, ℤ, sym, subst, arith}
 use Rattle.std.proofs.lemmas.Int.{ints}
 use Rattle.collect.specs.Fields.{field_number, range, fits}
 use Rattle.collect.specs.declared.field.Field.{Field}
 use Rattle.collect.specs.declared.field.Field.TheVariants.{Year, YearDiv100, YearMod100, Isoyear, IsoyearDiv100, IsoyearMod100, Quarter, Month, WeekFromSun, WeekFromMon, Isoweek, Weekday, Ordinal, Day, HourDiv12, HourMod12, Minute, Second, Nanosecond, Timestamp, Offset}
-use Rattle.parsed.specs.Slots.{KeptAs, signed, counted, wide, a_day, kept_as}
+use Rattle.parsed.specs.Slots.{KeptAs, Holds, kept_as}
 
--- between two bounds
-abbrev pub Bounds : KeptAs → ℤ → Type 0
-Bounds signed v = (negsuc 2147483647 ≤ℤ v) × (v ≤ℤ pos 2147483647)
-Bounds counted v = (pos 0 ≤ℤ v) × (v ≤ℤ pos 4294967295)
-Bounds wide v = Unit {0}
-Bounds a_day v = (pos 0 ≤ℤ v) × (v ≤ℤ pos 6)
-
-pub bounds : (x : Field) (v : ℤ) → fits (field_number x) v ≡ true → Bounds (kept_as x) v
+pub bounds : (x : Field) (v : ℤ) → fits (field_number x) v ≡ true → Holds (kept_as x) v
 unfolding range
 bounds Year v h = (grind (arith, ints), grind (arith, ints))
 bounds YearDiv100 v h = (grind (arith, ints), grind (arith, ints))
@@ -37,5 +30,5 @@ bounds Nanosecond v h = (grind (arith, ints), grind (arith, ints))
 bounds Timestamp v h = tt
 bounds Offset v h = (grind (arith, ints), grind (arith, ints))
 
-pub bounds_as : (x : Field) (k : KeptAs) (v : ℤ) → kept_as x ≡ k → true ≡ fits (field_number x) v → Bounds k v
-bounds_as x k v e h = subst (λ y. Bounds y v) e (bounds x v (sym h))
+pub bounds_as : (x : Field) (k : KeptAs) (v : ℤ) → kept_as x ≡ k → true ≡ fits (field_number x) v → Holds k v
+bounds_as x k v e h = subst (λ y. Holds y v) e (bounds x v (sym h))

@@ -1,4 +1,5 @@
 pub mod Put
 pub mod Slots
+pub mod Apart
 pub mod Records
 pub mod Placing

@@ -1,5 +1,5 @@
 -- One field of a record, as it takes an offer.
-use Rattle.std.specs.Prelude.{◌≡◌, ℕ, ◌+◌, Bool, true, cond, ◌&&◌, List, [], ◌∷◌, ℤ, pos, Some, None, Option}
+use Rattle.std.specs.Prelude.{◌≡◌, ℕ, ◌+◌, Bool, true, cond, ◌&&◌, List, [], ◌∷◌, ℤ, pos, negsuc, ◌≤ℤ◌, Some, None, Option}
 use Rattle.std.specs.Option.{option_map}
 use Rattle.names.specs.Days.{day_number}
 use Rattle.names.specs.declared.weekday.Weekday.{Weekday as WeekdayOfNames}
@@ -48,6 +48,13 @@ pub data KeptAs : Type 0 where
   counted : KeptAs
   wide : KeptAs
   a_day : KeptAs
+
+-- the numbers that such a type has a value for
+abbrev pub Holds : KeptAs → ℤ → Type 0
+Holds signed v = (negsuc 2147483647 ≤ℤ v) × (v ≤ℤ pos 2147483647)
+Holds counted v = (pos 0 ≤ℤ v) × (v ≤ℤ pos 4294967295)
+Holds wide v = Unit {0}
+Holds a_day v = (pos 0 ≤ℤ v) × (v ≤ℤ pos 6)
 
 abbrev pub kept_as : Field → KeptAs
 kept_as Year = signed
