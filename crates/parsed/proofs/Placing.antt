@@ -1,20 +1,20 @@
 -- A record that took an offer, and its fields as a list.
 use Rattle.std.specs.Prelude.{slice_index_or, ◌==◌, ◌&&◌, int_le, length}
-use Rattle.std.proofs.Common.{◌≡◌, ℕ, zero, suc, ◌+◌, ◌<◌, Bool, true, false, cond, List, [], ◌∷◌, get_or, ℤ, Some, None, Option, slice_set, refl, ⊎_elim, sym, ap, ◌∙◌, subst, zero-add, add-zero, arith, lit<, w64, to_z, of_z}
+use Rattle.std.proofs.Common.{◌≡◌, ℕ, zero, suc, ◌+◌, ◌<◌, Bool, true, false, cond, List, [], ◌∷◌, get_or, ℤ, Some, None, Option, slice_set, refl, ⊎_elim, sym, ap, ◌∙◌, subst, zero-add, add-zero, arith, w64, to_z, of_z}
 use Rattle.std.proofs.lemmas.List.{get_or-set_same, get_or-set_other}
 use Rattle.std.proofs.lemmas.Bool.{and_parts, and_from, cases_eq, cases_lt, cond_both, eqb-true, eq-eqb, ne_eqb}
 use Rattle.std.proofs.lemmas.Int.{to_z-of_z}
 use Rattle.std.proofs.lemmas.Iterator.Adapters.{option_map_id}
 use Rattle.std.specs.Option.{option_map}
 use mir.Val.{SFits}
-use Rattle.collect.specs.Fields.{field_number, fits}
+use Rattle.collect.specs.Fields.{field_number, range, fits}
 use Rattle.collect.specs.Tables.{Table, single, met}
 use Rattle.collect.specs.Judge.{Verdict, with_joined, kept, Offered}
 use Rattle.collect.specs.declared.field.Field.{Field}
-use Rattle.collect.proofs.Ranges.{beyond, has_range}
+use Rattle.collect.proofs.Ranges.{beyond, has_range, nothing}
 use Rattle.parsed.specs.Slots.{held, all_fit, joined_or, Slotted}
 use Rattle.parsed.specs.Records.{fields_of, parsed_table}
-use Rattle.parsed.specs.Placing.{held_at}
+use Rattle.parsed.specs.Placing.{held_at, fit_ranged}
 use Rattle.parsed.specs.declared.Parsed.{Parsed}
 
 -- what a table holds after an offer, field by field
@@ -73,6 +73,10 @@ below : (x : Field) → field_number x < 22
 below x =
     ⊎_elim (λ h. h) (λ h. absurd (let e : None ≡ Some (has_range x).0 = sym (beyond (field_number x) h) ∙ (has_range x).1 in cc))
     (cases_lt (field_number x) 22)
+
+-- the number of no field holds nothing
+pub holds_none : (p : Parsed) (n : ℕ) → range n ≡ None → parsed_table p n ≡ None
+holds_none p = nothing (parsed_table p) (fit_ranged (fields_of p) p.fitting)
 
 module _ (p : Parsed) {x y : Field} (e : y ≡ x) where
   -- the slot of the field x, known as y

@@ -3,10 +3,7 @@ use Rattle.std.specs.Prelude.{◌≡◌, ℕ, ◌+◌, Bool, true, cond, ◌&&�
 use Rattle.std.specs.Option.{option_map}
 use Rattle.names.specs.Days.{day_number}
 use Rattle.names.specs.declared.weekday.Weekday.{Weekday as WeekdayOfNames}
-use Rattle.scan.specs.declared.kind.ParseErrorKind.TheVariants.{OutOfRange}
 use Rattle.collect.specs.Fields.{fits, named}
-use Rattle.collect.specs.declared.fault.Cause.{Cause}
-use Rattle.collect.specs.declared.fault.Layer.TheVariants as layer
 use Rattle.collect.specs.declared.field.Field.{Field}
 use Rattle.collect.specs.declared.field.Field.TheVariants.{Year, YearDiv100, YearMod100, Isoyear, IsoyearDiv100, IsoyearMod100, Quarter, Month, WeekFromSun, WeekFromMon, Isoweek, Weekday, Ordinal, Day, HourDiv12, HourMod12, Minute, Second, Nanosecond, Timestamp, Offset}
 use Rattle.collect.specs.Tables.{single, met}
@@ -37,10 +34,6 @@ joined_or None old = old
 pub record Slotted (old : Option ℤ) (f : ℕ) (v : ℤ) (a : Verdict) (new : Option ℤ) : Type 0 where
   pub answer : a ≡ cond (fits f v) (by_join (met single old v) f) (refused 1 4 (named f))
   pub after : new ≡ cond (fits f v) (joined_or (met single old v) old) old
-
--- the refusal of a value that the field may not hold
-abbrev pub outside : ℕ → Cause
-outside f = record { kind = OutOfRange; layer = layer.Field f }
 
 -- the types that `Parsed` keeps values in: i32, u32, i64 and Weekday
 pub data KeptAs : Type 0 where

@@ -9,10 +9,10 @@ ghost use Rattle.std.proofs.Common.{rules, arith};
 use super::Parsed;
 use super::slots::{asked, put};
 use collect::collector::Collector;
-use collect::fault::{Cause, Layer};
+use collect::fault::Cause;
 use collect::field::Field;
 use collect::show::show;
-use scan::kind::ParseErrorKind;
+use std::convert::TryFrom;
 use std::fmt;
 
 impl Parsed {
@@ -59,12 +59,7 @@ impl Collector for Parsed {
     ghost ranged = { λ s. fit_ranged (fields_of s) s.fitting };
 
     fn offer(&mut self, field: u8, value: i64) -> Result<(), Cause> {
-        let Some(known) = Field::of(field) else {
-            return Err(Cause {
-                kind: ParseErrorKind::OutOfRange,
-                layer: Layer::Field(0),
-            });
-        };
+        let known = Field::try_from(field)?;
         match known {
             Field::Year => put(&mut self.year, known, value),
             Field::YearDiv100 => put(&mut self.year_div_100, known, value),
@@ -91,10 +86,7 @@ impl Collector for Parsed {
     }
 
     fn ask(&self, field: u8) -> Option<i64> {
-        let Some(known) = Field::of(field) else {
-            return None;
-        };
-        match known {
+        match Field::try_from(field).ok()? {
             Field::Year => asked(self.year),
             Field::YearDiv100 => asked(self.year_div_100),
             Field::YearMod100 => asked(self.year_mod_100),

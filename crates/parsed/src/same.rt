@@ -6,7 +6,7 @@ ghost use Rattle.collect.specs.Faults.{verdict};
 ghost use Rattle.collect.specs.Fields.{field_number};
 ghost use Rattle.parsed.specs.Put.{Put};
 
-use collect::fault::{Cause, Layer};
+use collect::fault::Cause;
 use collect::field::Field;
 use names::weekday::Weekday;
 use scan::kind::ParseErrorKind;
@@ -42,10 +42,7 @@ pub fn set_if_consistent<T: Same + Drop>(
 {
     match old {
         Some(held) if *held == new => Ok(()),
-        Some(_) => Err(Cause {
-            kind: ParseErrorKind::Impossible,
-            layer: Layer::Field(field.number()),
-        }),
+        Some(_) => Err(Cause::of_field(ParseErrorKind::Impossible, field.number())),
         None => {
             *old = Some(new);
             Ok(())

@@ -5,11 +5,11 @@ ghost use Rattle.std.proofs.Common.{ap};
 ghost use Rattle.names.specs.Days.{day_number};
 ghost use Rattle.collect.specs.Faults.{verdict};
 ghost use Rattle.collect.specs.Fields.{field_number};
-ghost use Rattle.parsed.specs.Slots.{Slotted, KeptAs, Holds, kept_as, outside, signed, counted, wide, a_day};
+ghost use Rattle.parsed.specs.Slots.{Slotted, KeptAs, Holds, kept_as, signed, counted, wide, a_day};
 ghost use Rattle.parsed.specs.Apart.{day_apart};
 
 use super::same::{Same, set_if_consistent};
-use collect::fault::{Cause, Layer};
+use collect::fault::Cause;
 use collect::field::Field;
 use names::weekday::Weekday;
 use scan::kind::ParseErrorKind;
@@ -96,22 +96,13 @@ impl Kept for Weekday {
     }
 }
 
-fn out_of_range(field: Field) -> Cause
-    ensures { result ≡ outside (field_number field) }
-{
-    Cause {
-        kind: ParseErrorKind::OutOfRange,
-        layer: Layer::Field(field.number()),
-    }
-}
-
 // Puts a value into the slot of its field.
 pub(crate) fn put<T: Kept>(slot: &mut Option<T>, field: Field, value: i64) -> Result<(), Cause>
     requires { kept_as field ≡ T.kind }
     ensures { Slotted (option_map T.number slot.old) (field_number field) value (verdict result) (option_map T.number slot.new) }
 {
     if !field.admits(value) {
-        return Err(out_of_range(field));
+        return Err(Cause::of_field(ParseErrorKind::OutOfRange, field.number()));
     }
     set_if_consistent(slot, T::of(value), field)
 }

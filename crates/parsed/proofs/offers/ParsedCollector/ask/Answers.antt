@@ -1,10 +1,9 @@
-use Rattle.std.proofs.Common.{get_or, None, sym}
-use Rattle.collect.proofs.Ranges.{nothing}
-use Rattle.parsed.specs.Records.{fields_of}
-use Rattle.parsed.specs.Placing.{fit_ranged}
+use Rattle.std.proofs.Common.{◌≡◌, None, sym, ◌∙◌, arith}
+use Rattle.collect.specs.Fields.{range}
+use Rattle.parsed.proofs.Placing.{holds_none}
 use Rattle.parsed.proofs.offers.ParsedCollector.ask.Goals as goal
 
-pub returns-in_default : goal.returns-in_default
-returns-in_default c =
-    let fs = fields_of c.args.self.now in
-    sym (nothing (λ f. get_or fs f None) (fit_ranged fs c.args.self.now.fitting) c.args.field c.in_default.ensures)
+pub returns-in_err-ok : goal.returns-in_err-ok
+returns-in_err-ok c =
+    let e : range c.args.field ≡ None = grind arith in
+    c.from_residual.ensures ∙ sym (holds_none c.args.self.now c.args.field e)
