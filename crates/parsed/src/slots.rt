@@ -1,12 +1,11 @@
 // One field of a record, as it takes an offer.
 ghost use Rattle.std.specs.Prelude.{◌≡◌, ℤ, pos, nat_abs};
 ghost use Rattle.std.specs.Option.{option_map};
-ghost use Rattle.std.proofs.Common.{ap};
+ghost use Rattle.std.proofs.Common.{ap, rules};
 ghost use Rattle.names.specs.Days.{day_number};
 ghost use Rattle.collect.specs.Faults.{verdict};
 ghost use Rattle.collect.specs.Fields.{field_number};
 ghost use Rattle.parsed.specs.Slots.{Slotted, KeptAs, Holds, kept_as, signed, counted, wide, a_day};
-ghost use Rattle.parsed.specs.Apart.{day_apart};
 
 use super::same::{Same, set_if_consistent};
 use collect::fault::Cause;
@@ -85,7 +84,7 @@ impl Kept for Weekday {
 
     ghost number = { λ d. pos (day_number d) };
 
-    ghost apart = { day_apart };
+    ghost apart = { Prim.search rules };
 
     fn of(value: i64) -> Weekday {
         Weekday::try_from(value as u8).unwrap()
