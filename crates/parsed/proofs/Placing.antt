@@ -1,12 +1,11 @@
 -- A record that took an offer, and its fields as a list.
 use Rattle.std.specs.Prelude.{slice_index_or, ◌==◌, ◌&&◌, int_le, length}
-use Rattle.std.proofs.Common.{◌≡◌, ℕ, zero, suc, ◌+◌, ◌<◌, Bool, true, false, cond, List, [], ◌∷◌, get_or, ℤ, Some, None, Option, slice_set, refl, ⊎_elim, sym, ap, ◌∙◌, subst, zero-add, add-zero, arith, w64, to_z, of_z}
+use Rattle.std.proofs.Common.{◌≡◌, ℕ, zero, suc, ◌+◌, ◌<◌, Bool, true, false, cond, List, [], ◌∷◌, get_or, ℤ, Some, None, Option, slice_set, refl, ⊎_elim, sym, ap, ◌∙◌, subst, zero-add, add-zero, arith, FitsSigned, w64, to_z, of_z}
 use Rattle.std.proofs.lemmas.List.{get_or-set_same, get_or-set_other}
 use Rattle.std.proofs.lemmas.Bool.{and_parts, and_from, cases_eq, cases_lt, cond_both, eqb-true, eq-eqb, ne_eqb}
 use Rattle.std.proofs.lemmas.Int.{to_z-of_z}
 use Rattle.std.proofs.lemmas.Iterator.Adapters.{option_map_id}
 use Rattle.std.specs.Option.{option_map}
-use mir.Val.{SFits}
 use Rattle.collect.specs.Fields.{field_number, range, fits}
 use Rattle.collect.specs.Tables.{Table, single, met}
 use Rattle.collect.specs.Judge.{Verdict, with_joined, kept, Offered}
@@ -14,7 +13,7 @@ use Rattle.collect.specs.declared.field.Field.{Field}
 use Rattle.collect.proofs.Ranges.{beyond, has_range, nothing}
 use Rattle.parsed.specs.Slots.{held, all_fit, joined_or, Slotted}
 use Rattle.parsed.specs.Records.{fields_of, parsed_table}
-use Rattle.parsed.specs.Placing.{held_at, fit_ranged}
+use Rattle.parsed.specs.Fitting.{held_at, fit_ranged}
 use Rattle.parsed.specs.declared.Parsed.{Parsed}
 
 -- what a table holds after an offer, field by field
@@ -87,7 +86,7 @@ module _ (p : Parsed) {x y : Field} (e : y ≡ x) where
   stays_fit {v} {a} {new} s = fit_placed (fields_of p) (field_number x) v a new p.fitting (slot_of s)
 
   -- the value went through its bits
-  pub takes : {n : ℕ} {v : ℤ} {a : Verdict} {new : Option ℤ} → field_number y ≡ n → SFits w64 v → Slotted (get_or (fields_of p) (field_number x) None) (field_number y) (to_z w64 (of_z w64 v)) a new
+  pub takes : {n : ℕ} {v : ℤ} {a : Verdict} {new : Option ℤ} → field_number y ≡ n → FitsSigned w64 v → Slotted (get_or (fields_of p) (field_number x) None) (field_number y) (to_z w64 (of_z w64 v)) a new
       → Offered (parsed_table p) n v a (λ j. get_or (slice_set (fields_of p) (field_number x) new) j None)
   takes {n} {v} {a} {new} q r s =
       subst (λ m. Offered (parsed_table p) m v a (λ j. get_or (slice_set (fields_of p) (field_number x) new) j None)) (sym (ap field_number e) ∙ q)

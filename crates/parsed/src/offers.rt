@@ -3,7 +3,7 @@ ghost use Rattle.std.specs.Prelude.{◌≡◌, ℕ, ℤ, Some, None};
 ghost use Rattle.collect.specs.Judge.{Offered};
 ghost use Rattle.collect.specs.Shown.{record_text};
 ghost use Rattle.parsed.specs.Records.{parsed_table, fields_of};
-ghost use Rattle.parsed.specs.Placing.{fit_ranged};
+ghost use Rattle.parsed.specs.Fitting.{fit_ranged};
 ghost use Rattle.std.proofs.Common.{rules, arith};
 
 use super::Parsed;

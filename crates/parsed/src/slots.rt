@@ -14,12 +14,14 @@ use names::weekday::Weekday;
 use scan::kind::ParseErrorKind;
 use std::convert::TryFrom;
 
-// A type that a field is kept in, and what its values say of a number.
-pub(crate) trait Kept: Same + Copy + Drop {
+// A type that fields are kept in, whose values stand for numbers.
+pub(crate) trait Kept: Same + Copy {
     ghost kind: { KeptAs };
 
+    // What a value stands for.
     ghost number: { Self → ℤ };
 
+    // The value that stands for a number.
     fn of(value: i64) -> Self
         requires { Holds kind value }
         ensures { number result ≡ value };
@@ -27,7 +29,7 @@ pub(crate) trait Kept: Same + Copy + Drop {
     fn number(self) -> i64
         ensures { result ≡ number self };
 
-    // No two values have one number.
+    // No two values stand for one number.
     ghost apart: { (x y : Self) → number x ≡ number y → x ≡ y };
 }
 
