@@ -11,6 +11,7 @@ pub mod offers;
 pub mod shown;
 
 // Room for one entry of each field is reserved from the start, so no offer fails for want of memory.
+// It has no model as a plain list: that values lie in their ranges is a law of each docket, and not of each list.
 #[derive(Drop)]
 pub struct Docket {
     entries: Vec<Entry>,

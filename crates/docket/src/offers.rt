@@ -11,7 +11,7 @@ ghost use Rattle.docket.specs.Pushed.{look_fits};
 use super::Docket;
 use super::entry::Entry;
 use collect::collector::Collector;
-use collect::fault::{Cause, Layer};
+use collect::fault::Cause;
 use collect::field::Field;
 use scan::kind::ParseErrorKind;
 use std::alloc::{AllocError, Global};
@@ -20,12 +20,7 @@ use std::alloc::{AllocError, Global};
 fn sought(entries: &[Entry], field: u8) -> Option<i64>
     ensures { result ≡ look entries.now field }
 {
-    for e in entries {
-        if e.field == field {
-            return Some(e.value);
-        }
-    }
-    None
+    entries.iter().find(|e| e.field == field).map(|e| e.value)
 }
 
 impl Docket {
@@ -68,31 +63,19 @@ impl Collector for Docket {
     ghost ranged = { λ s. look_fits (entries_of s) s.fitting };
 
     fn offer(&mut self, field: u8, value: i64) -> Result<(), Cause> {
-        let Some(known) = Field::of(field) else {
-            return Err(Cause {
-                kind: ParseErrorKind::OutOfRange,
-                // it names no field
-                layer: Layer::Field(0),
-            });
-        };
+        let known = Field::try_from(field)?;
         if !known.admits(value) {
-            return Err(Cause {
-                kind: ParseErrorKind::OutOfRange,
-                layer: Layer::Field(field),
-            });
+            return Err(Cause::of_field(ParseErrorKind::OutOfRange, field));
         }
-        if let Some(held) = sought(self.entries.as_slice(), field) {
-            if held == value {
-                return Ok(());
+        match sought(self.entries.as_slice(), field) {
+            Some(held) if held == value => Ok(()),
+            Some(_) => Err(Cause::of_field(ParseErrorKind::Impossible, field)),
+            None => {
+                // there is room: no two entries are of one field
+                self.entries.push_reserved(Entry { field, value });
+                Ok(())
             }
-            return Err(Cause {
-                kind: ParseErrorKind::Impossible,
-                layer: Layer::Field(field),
-            });
         }
-        // there is room: no two entries are of one field
-        self.entries.push_reserved(Entry { field, value });
-        Ok(())
     }
 
     fn ask(&self, field: u8) -> Option<i64> {

@@ -13,9 +13,9 @@ impl fmt::Display for Entry {
     ghost output = { λ e. Some (entry_text e) };
 
     fn fmt<W: fmt::Write>(&self, f: &mut fmt::Formatter<W>) -> fmt::Result {
-        match Field::of(self.field) {
-            Some(known) => write!(f, "{known}={}", self.value),
-            None => write!(f, "{}={}", self.field, self.value),
+        match Field::try_from(self.field) {
+            Ok(known) => write!(f, "{known}={}", self.value),
+            Err(_) => write!(f, "{}={}", self.field, self.value),
         }
     }
 }

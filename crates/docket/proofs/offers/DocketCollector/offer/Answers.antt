@@ -1,8 +1,9 @@
-use Rattle.std.proofs.Common.{◌≡◌, ℕ, true, false, List, [], ◌∷◌, ◌++◌, ℤ, None, sym, ap, ◌∙◌, subst, arith, w64, to_z, of_z, rules}
+use Rattle.std.proofs.Common.{◌≡◌, ℕ, true, false, List, [], ◌∷◌, ◌++◌, ℤ, None, Err, sym, ap, ◌∙◌, subst, arith, w64, to_z, of_z, rules}
 use Rattle.std.proofs.lemmas.Int.{to_z-of_z}
 use Rattle.std.proofs.lemmas.Bool.{cond-false}
 use Rattle.collect.specs.Fields.{fits, named}
 use Rattle.collect.specs.Judge.{refused}
+use Rattle.collect.specs.Faults.{verdict}
 use Rattle.collect.proofs.Ranges.{named_field}
 use Rattle.docket.specs.declared.entry.Entry.{Entry}
 use Rattle.docket.specs.Entries.{look, apart, fit}
@@ -26,7 +27,8 @@ module _ (es fs : List Entry) (k : ℕ) (v w : ℤ) (e : fs ≡ es ++ entry k w 
 pub returns-then-not-admits : goal.returns-then-not-admits
 returns-then-not-admits c =
     let q : fits c.args.field c.args.value ≡ false = search rules in
-    outside (entries_of c.args.self.now) c.args.field c.args.value (subst (λ n. named n ≡ n) c.in-Some.ensures (named_field c.in-Some.known)) q
+    subst (λ w. Noted (entries_of c.args.self.now) c.args.field c.args.value (verdict (Err w)) (entries_of c.args.self.now)) (sym c.of_field.ensures)
+    (outside (entries_of c.args.self.now) c.args.field c.args.value (subst (λ n. named n ≡ n) c.in_ok-known.ensures (named_field c.in_ok-known.known)) q)
 
 pub push_reserved-requires : goal.push_reserved-requires
 push_reserved-requires c =
