@@ -1,19 +1,16 @@
 -- The values of each field fit the type that it is kept in.
-use Rattle.std.proofs.Common.{◌≡◌, true, ℤ, pos, negsuc, ◌≤ℤ◌, sym, subst, arith}
-use Rattle.std.proofs.lemmas.Int.{ints}
+use Rattle.std.proofs.Common.{◌≡◌, true, false, ℤ, Option, Err, sym, ap, ◌∙◌, subst, arith, FitsSigned, w64, to_z, of_z}
+use Rattle.std.proofs.lemmas.Int.{ints, to_z-of_z}
 use Rattle.collect.specs.Fields.{field_number, range, fits}
+use Rattle.collect.specs.Faults.{verdict, of_field}
+use Rattle.collect.specs.declared.fault.Cause.{Cause}
+use Rattle.scan.specs.declared.kind.ParseErrorKind.TheVariants.{OutOfRange}
+use Rattle.collect.proofs.Ranges.{named_field}
 use Rattle.collect.specs.declared.field.Field.{Field}
 use Rattle.collect.specs.declared.field.Field.TheVariants.{Year, YearDiv100, YearMod100, Isoyear, IsoyearDiv100, IsoyearMod100, Quarter, Month, WeekFromSun, WeekFromMon, Isoweek, Weekday, Ordinal, Day, HourDiv12, HourMod12, Minute, Second, Nanosecond, Timestamp, Offset}
-use Rattle.parsed.specs.Slots.{KeptAs, signed, counted, wide, a_day, kept_as}
+use Rattle.parsed.specs.Slots.{KeptAs, Holds, kept_as, Slotted}
 
--- between two bounds
-abbrev pub Bounds : KeptAs → ℤ → Type 0
-Bounds signed v = (negsuc 2147483647 ≤ℤ v) × (v ≤ℤ pos 2147483647)
-Bounds counted v = (pos 0 ≤ℤ v) × (v ≤ℤ pos 4294967295)
-Bounds wide v = Unit {0}
-Bounds a_day v = (pos 0 ≤ℤ v) × (v ≤ℤ pos 6)
-
-pub bounds : (x : Field) (v : ℤ) → fits (field_number x) v ≡ true → Bounds (kept_as x) v
+pub bounds : (x : Field) (v : ℤ) → fits (field_number x) v ≡ true → Holds (kept_as x) v
 unfolding range
 bounds Year v h = (grind (arith, ints), grind (arith, ints))
 bounds YearDiv100 v h = (grind (arith, ints), grind (arith, ints))
@@ -37,5 +34,11 @@ bounds Nanosecond v h = (grind (arith, ints), grind (arith, ints))
 bounds Timestamp v h = tt
 bounds Offset v h = (grind (arith, ints), grind (arith, ints))
 
-pub bounds_as : (x : Field) (k : KeptAs) (v : ℤ) → kept_as x ≡ k → true ≡ fits (field_number x) v → Bounds k v
-bounds_as x k v e h = subst (λ y. Bounds y v) e (bounds x v (sym h))
+pub bounds_as : (x : Field) (k : KeptAs) (v : ℤ) → kept_as x ≡ k → true ≡ fits (field_number x) v → Holds k v
+bounds_as x k v e h = subst (λ y. Holds y v) e (bounds x v (sym h))
+
+-- a value that its field may not hold, which went through its bits, is refused as out of range
+pub refused_outside : {old : Option ℤ} {v : ℤ} {w : Cause} (x : Field) → FitsSigned w64 v → false ≡ fits (field_number x) (to_z w64 (of_z w64 v)) → w ≡ of_field OutOfRange (field_number x) → Slotted old (field_number x) v (verdict (Err w)) old
+refused_outside {old} {v} {w} x r h e =
+    let n = named_field x in
+    record { answer = ap (λ y. verdict (Err y)) e ∙ grind (arith, to_z-of_z); after = grind (arith, to_z-of_z) }

@@ -1,4 +1,4 @@
 pub mod Put
 pub mod Slots
 pub mod Records
-pub mod Placing
+pub mod Fitting

@@ -1,12 +1,9 @@
 -- One field of a record, as it takes an offer.
-use Rattle.std.specs.Prelude.{◌≡◌, ℕ, ◌+◌, Bool, true, cond, ◌&&◌, List, [], ◌∷◌, ℤ, pos, Some, None, Option}
+use Rattle.std.specs.Prelude.{◌≡◌, ℕ, ◌+◌, Bool, true, cond, ◌&&◌, List, [], ◌∷◌, ℤ, pos, negsuc, ◌≤ℤ◌, Some, None, Option}
 use Rattle.std.specs.Option.{option_map}
 use Rattle.names.specs.Days.{day_number}
 use Rattle.names.specs.declared.weekday.Weekday.{Weekday as WeekdayOfNames}
-use Rattle.scan.specs.declared.kind.ParseErrorKind.TheVariants.{OutOfRange}
 use Rattle.collect.specs.Fields.{fits, named}
-use Rattle.collect.specs.declared.fault.Cause.{Cause}
-use Rattle.collect.specs.declared.fault.Layer.TheVariants as layer
 use Rattle.collect.specs.declared.field.Field.{Field}
 use Rattle.collect.specs.declared.field.Field.TheVariants.{Year, YearDiv100, YearMod100, Isoyear, IsoyearDiv100, IsoyearMod100, Quarter, Month, WeekFromSun, WeekFromMon, Isoweek, Weekday, Ordinal, Day, HourDiv12, HourMod12, Minute, Second, Nanosecond, Timestamp, Offset}
 use Rattle.collect.specs.Tables.{single, met}
@@ -38,16 +35,19 @@ pub record Slotted (old : Option ℤ) (f : ℕ) (v : ℤ) (a : Verdict) (new : O
   pub answer : a ≡ cond (fits f v) (by_join (met single old v) f) (refused 1 4 (named f))
   pub after : new ≡ cond (fits f v) (joined_or (met single old v) old) old
 
--- the refusal of a value that the field may not hold
-abbrev pub outside : ℕ → Cause
-outside f = record { kind = OutOfRange; layer = layer.Field f }
-
 -- the types that `Parsed` keeps values in: i32, u32, i64 and Weekday
 pub data KeptAs : Type 0 where
   signed : KeptAs
   counted : KeptAs
   wide : KeptAs
   a_day : KeptAs
+
+-- the numbers that such a type has a value for
+abbrev pub Holds : KeptAs → ℤ → Type 0
+Holds signed v = (negsuc 2147483647 ≤ℤ v) × (v ≤ℤ pos 2147483647)
+Holds counted v = (pos 0 ≤ℤ v) × (v ≤ℤ pos 4294967295)
+Holds wide v = Unit {0}
+Holds a_day v = (pos 0 ≤ℤ v) × (v ≤ℤ pos 6)
 
 abbrev pub kept_as : Field → KeptAs
 kept_as Year = signed

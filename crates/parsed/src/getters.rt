@@ -8,6 +8,7 @@ ghost use Rattle.parsed.specs.Records.{parsed_table};
 use super::Parsed;
 use names::weekday::Weekday;
 
+// a method for each field, which is asked for by chrono's name
 impl Parsed {
     pub fn year(&self) -> Option<i32>
         ensures { result ≡ parsed_table self.now (field_number Year) }

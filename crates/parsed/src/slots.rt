@@ -1,93 +1,116 @@
 // One field of a record, as it takes an offer.
-ghost use Rattle.std.specs.Prelude.{◌≡◌, ℤ, pos};
+ghost use Rattle.std.specs.Prelude.{◌≡◌, ℤ, pos, nat_abs};
 ghost use Rattle.std.specs.Option.{option_map};
+ghost use Rattle.std.proofs.Common.{ap, rules};
 ghost use Rattle.names.specs.Days.{day_number};
 ghost use Rattle.collect.specs.Faults.{verdict};
 ghost use Rattle.collect.specs.Fields.{field_number};
-ghost use Rattle.parsed.specs.Slots.{Slotted, counts, days, kept_as, outside, signed, counted, wide, a_day};
+ghost use Rattle.parsed.specs.Slots.{Slotted, KeptAs, Holds, kept_as, signed, counted, wide, a_day};
 
-use super::same::set_if_consistent;
-use collect::fault::{Cause, Layer};
+use super::same::{Same, set_if_consistent};
+use collect::fault::Cause;
 use collect::field::Field;
 use names::weekday::Weekday;
 use scan::kind::ParseErrorKind;
 use std::convert::TryFrom;
 
-fn out_of_range(field: Field) -> Cause
-    ensures { result ≡ outside (field_number field) }
-{
-    Cause {
-        kind: ParseErrorKind::OutOfRange,
-        layer: Layer::Field(field.number()),
+// A type that fields are kept in, whose values stand for numbers.
+pub(crate) trait Kept: Same + Copy {
+    ghost kind: { KeptAs };
+
+    // What a value stands for.
+    ghost number: { Self → ℤ };
+
+    // The value that stands for a number.
+    fn of(value: i64) -> Self
+        requires { Holds kind value }
+        ensures { number result ≡ value };
+
+    fn number(self) -> i64
+        ensures { result ≡ number self };
+
+    // No two values stand for one number.
+    ghost apart: { (x y : Self) → number x ≡ number y → x ≡ y };
+}
+
+impl Kept for i32 {
+    ghost kind = { signed };
+
+    ghost number = { λ x. x };
+
+    ghost apart = { λ x y e. e };
+
+    fn of(value: i64) -> i32 {
+        value as i32
+    }
+
+    fn number(self) -> i64 {
+        i64::from(self)
     }
 }
 
-pub(crate) fn put_i32(old: &mut Option<i32>, field: Field, value: i64) -> Result<(), Cause>
-    requires { kept_as field ≡ signed }
-    ensures { Slotted old.old (field_number field) value (verdict result) old.new }
+impl Kept for u32 {
+    ghost kind = { counted };
+
+    ghost number = { pos };
+
+    ghost apart = { λ x y e. ap nat_abs e };
+
+    fn of(value: i64) -> u32 {
+        value as u32
+    }
+
+    fn number(self) -> i64 {
+        i64::from(self)
+    }
+}
+
+impl Kept for i64 {
+    ghost kind = { wide };
+
+    ghost number = { λ x. x };
+
+    ghost apart = { λ x y e. e };
+
+    fn of(value: i64) -> i64 {
+        value
+    }
+
+    fn number(self) -> i64 {
+        self
+    }
+}
+
+impl Kept for Weekday {
+    ghost kind = { a_day };
+
+    ghost number = { λ d. pos (day_number d) };
+
+    ghost apart = { Prim.search rules };
+
+    fn of(value: i64) -> Weekday {
+        Weekday::try_from(value as u8).unwrap()
+    }
+
+    fn number(self) -> i64 {
+        i64::from(self.num_days_from_monday())
+    }
+}
+
+// Puts a value into the slot of its field.
+pub(crate) fn put<T: Kept>(slot: &mut Option<T>, field: Field, value: i64) -> Result<(), Cause>
+    requires { kept_as field ≡ T.kind }
+    ensures { Slotted (option_map T.number slot.old) (field_number field) value (verdict result) (option_map T.number slot.new) }
 {
     if !field.admits(value) {
-        return Err(out_of_range(field));
+        return Err(Cause::of_field(ParseErrorKind::OutOfRange, field.number()));
     }
-    set_if_consistent(old, value as i32, field)
+    set_if_consistent(slot, T::of(value), field)
 }
 
-pub(crate) fn put_u32(old: &mut Option<u32>, field: Field, value: i64) -> Result<(), Cause>
-    requires { kept_as field ≡ counted }
-    ensures { Slotted (option_map pos old.old) (field_number field) value (verdict result) (option_map pos old.new) }
+// The number of what is held.
+pub(crate) fn asked<T: Kept>(held: Option<T>) -> Option<i64>
+    ensures { result ≡ option_map T.number held }
 {
-    if !field.admits(value) {
-        return Err(out_of_range(field));
-    }
-    set_if_consistent(old, value as u32, field)
-}
-
-pub(crate) fn put_i64(old: &mut Option<i64>, field: Field, value: i64) -> Result<(), Cause>
-    requires { kept_as field ≡ wide }
-    ensures { Slotted old.old (field_number field) value (verdict result) old.new }
-{
-    if !field.admits(value) {
-        return Err(out_of_range(field));
-    }
-    set_if_consistent(old, value, field)
-}
-
-pub(crate) fn put_weekday(old: &mut Option<Weekday>, field: Field, value: i64) -> Result<(), Cause>
-    requires { kept_as field ≡ a_day }
-    ensures { Slotted (option_map (λ d. pos (day_number d)) old.old) (field_number field) value (verdict result) (option_map (λ d. pos (day_number d)) old.new) }
-{
-    if !field.admits(value) {
-        return Err(out_of_range(field));
-    }
-    match Weekday::try_from(value as u8) {
-        Ok(day) => set_if_consistent(old, day, field),
-        Err(_) => unreachable(),
-    }
-}
-
-pub(crate) fn from_i32(held: Option<i32>) -> Option<i64>
-    ensures { result ≡ held }
-{
-    match held {
-        Some(value) => Some(value as i64),
-        None => None,
-    }
-}
-
-pub(crate) fn from_u32(held: Option<u32>) -> Option<i64>
-    ensures { result ≡ counts held }
-{
-    match held {
-        Some(value) => Some(value as i64),
-        None => None,
-    }
-}
-
-pub(crate) fn from_weekday(held: Option<Weekday>) -> Option<i64>
-    ensures { result ≡ days held }
-{
-    match held {
-        Some(day) => Some(day.num_days_from_monday() as i64),
-        None => None,
-    }
+    held.map(T::number)
 }
