@@ -1,6 +1,11 @@
 -- Which numbers have a range and a name.
-use Rattle.std.proofs.Common.{◌≡◌, ℕ, ◌-◌, ◌<◌, ◌≤◌, Bool, true, false, get_or, ℤ, is_some, Some, None, decimal, Option, sym, refl, ap, ◌∙◌, ⊎_elim, arith}
+use Rattle.std.proofs.Common.{◌≡◌, ℕ, ◌-◌, ◌<◌, ◌≤◌, Bool, true, false, get_or, ℤ, is_some, Some, None, decimal, Option, int_eq, Decides, sym, refl, ap, ◌∙◌, ⊎_elim, subst, arith}
 use Rattle.std.proofs.lemmas.List.{get_or_past}
+use Rattle.std.proofs.lemmas.List.FromFn.{get_or-range_with_len}
+use Rattle.std.proofs.lemmas.List.Sums.{AllPass-from_list_all, list_all-from_AllPass}
+use Rattle.std.proofs.lemmas.Bool.Decides.{Decides-int_eq}
+use Rattle.std.specs.List.{list_all, range_with_len}
+use Rattle.std.specs.Option.{option_eq}
 use Rattle.std.proofs.lemmas.Bool.{both_ways, cases_lt, cond-true}
 use Rattle.collect.specs.Fields.{field_number, field_name, range, ranges, within, named}
 use Rattle.collect.specs.Shown.{fields, label}
@@ -71,3 +76,19 @@ same_tables t u r q h = λ i f. by f i
   where
     by : (f : ℕ) → t f ≡ u f
     by f = ⊎_elim (h f) (λ b. nothing t r f (beyond f b) ∙ sym (nothing u q f (beyond f b))) (cases_lt f 22)
+
+same_option : (a b : Option ℤ) → Decides (option_eq int_eq a b) (a ≡ b)
+same_option None None = (λ _. refl, λ _. refl)
+same_option None (Some w) = (λ e. cc, λ e. cc)
+same_option (Some v) None = (λ e. cc, λ e. cc)
+same_option (Some v) (Some w) = let d = Decides-int_eq v w in (λ e. ap Some (d.0 e), λ e. d.1 cc)
+
+-- what each field is asked tells whether two tables are the same
+pub same_asked : (t u : Table ℤ) → Ranged t → Ranged u → (r : Bool) → r ≡ list_all (λ f. option_eq int_eq (t f) (u f)) (range_with_len 0 22) → Decides r (t ≡ u)
+same_asked t u p q r e = (
+  λ y. same_tables t u p q (λ f h. (same_option (t f) (u f)).0 (subst (λ n. same n ≡ true) (get_or-range_with_len 0 22 f 0 h ∙ omega arith) (AllPass-from_list_all same (range_with_len 0 22) (sym e ∙ y) f 0 h))),
+  λ y. e ∙ list_all-from_AllPass same (range_with_len 0 22) (λ k d h. (same_option _ _).1 (ap (λ w. w (get_or (range_with_len 0 22) k d)) y)),
+)
+  where
+    same : ℕ → Bool
+    same f = option_eq int_eq (t f) (u f)

@@ -1,6 +1,8 @@
 -- The numbers of the code's answers.
 use Rattle.std.specs.Prelude.{ℕ, None, Ok, Err, Option, Result}
 use Rattle.scan.specs.Kinds.{kind_number}
+use Rattle.scan.specs.declared.kind.ParseErrorKind.{ParseErrorKind}
+use Rattle.scan.specs.declared.kind.ParseErrorKind.TheVariants.{OutOfRange}
 use Rattle.collect.specs.Readings.{Ending, granted, fault}
 use Rattle.collect.specs.Judge.{Verdict, taken, refused}
 use Rattle.collect.specs.declared.fault.Layer.{Layer}
@@ -20,6 +22,14 @@ field_named Text = 0
 field_named List = 0
 field_named Scan = 0
 field_named (Field f) = f
+
+-- the refusal by the field of a number
+abbrev pub of_field : ParseErrorKind → ℕ → Cause
+of_field k f = record { kind = k; layer = Field f }
+
+-- what an offer to the number of no field is refused with: it names field 0
+abbrev pub no_field : Cause
+no_field = of_field OutOfRange 0
 
 -- What an answer says: granted, with the place of the unread text if it has one, or refused, with five numbers.
 -- Every promise about an answer goes through this.

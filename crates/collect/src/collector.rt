@@ -13,10 +13,11 @@ pub trait Collector {
     // An offer of a value to the field of a number may take it from a state, with an answer, to a state.
     ghost offered: { Self → ℕ → ℤ → Verdict → Self → Type 0 };
 
+    // The field is named by a number and not by a `Field`, since a number of no field has an answer of its own.
     fn offer(&mut self, field: u8, value: i64) -> Result<(), Cause>
         ensures { offered self.old field value (verdict result) self.new };
 
-    // The value of a field, if it has one.
+    // The value of a field, if it has one: by number too, and the number of no field has none.
     fn ask(&self, field: u8) -> Option<i64>
         ensures { result ≡ table self.now field };
 

@@ -1,6 +1,6 @@
 // Refusals.
 ghost use Rattle.std.specs.Prelude.{◌≡◌, Some, Err};
-ghost use Rattle.collect.specs.Faults.{layer_number, field_named, told, nowhere};
+ghost use Rattle.collect.specs.Faults.{layer_number, field_named, told, nowhere, of_field};
 ghost use Rattle.collect.specs.Readings.{fault};
 ghost use Rattle.collect.specs.Refusals.{cause_text, fault_text};
 
@@ -17,7 +17,7 @@ pub enum Layer {
     List,
     // what one item reads
     Scan,
-    // the field of this number, or 0 for a number of no field
+    // the field of this number: a number and no `Field`, since 0 stands for a number of no field
     Field(u8),
 }
 
@@ -60,6 +60,18 @@ pub struct Fault {
     pub place: usize,
 }
 
+impl Cause {
+    // What the field of a number refuses: a number and no `Field`, since 0 stands for a number of no field.
+    pub fn of_field(kind: ParseErrorKind, field: u8) -> Cause
+        ensures { result ≡ of_field kind field }
+    {
+        Cause {
+            kind,
+            layer: Layer::Field(field),
+        }
+    }
+}
+
 impl Fault {
     // Kind, layer, item, place and field, for a machine.
     pub fn numbers(self) -> (u8, u8, usize, usize, u8)
@@ -76,6 +88,19 @@ impl Fault {
     }
 }
 
+// The refusal of a call that knows neither item nor place.
+impl From<Cause> for Fault {
+    ghost from_gives = { λ w f. f ≡ record { cause = w; item = 0; place = 0 } };
+
+    fn from(cause: Cause) -> Fault {
+        Fault {
+            cause,
+            item: 0,
+            place: 0,
+        }
+    }
+}
+
 // What was refused, in words.
 impl fmt::Display for Cause {
     ghost output = { λ w. Some (cause_text w) };
@@ -85,7 +110,7 @@ impl fmt::Display for Cause {
         let Layer::Field(number) = self.layer else {
             return write!(f, "{kind}");
         };
-        let Some(field) = Field::of(number) else {
+        let Ok(field) = Field::try_from(number) else {
             return write!(f, "no field has this number");
         };
         match kind {

@@ -1,7 +1,10 @@
 // The fields of a record.
-ghost use Rattle.std.specs.Prelude.{◌≡◌, ◌&&◌, Some, None, MatchOption};
+ghost use Rattle.std.specs.Prelude.{◌≡◌, Some, None, MatchResult};
 ghost use Rattle.collect.specs.Fields.{field_number, field_name, range, fits};
+ghost use Rattle.collect.specs.Faults.{no_field};
 
+use super::fault::Cause;
+use scan::kind::ParseErrorKind;
 use std::fmt;
 
 #[derive(Clone, Copy, PartialEq, Eq, Debug)]
@@ -78,43 +81,17 @@ impl Field {
         self as u8
     }
 
-    // The field of a number, if there is one.
-    pub fn of(number: u8) -> Option<Field>
-        ensures { MatchOption result (range number ≡ None) (λ f. field_number f ≡ number) }
-    {
-        match number {
-            1 => Some(Field::Year),
-            2 => Some(Field::YearDiv100),
-            3 => Some(Field::YearMod100),
-            4 => Some(Field::Isoyear),
-            5 => Some(Field::IsoyearDiv100),
-            6 => Some(Field::IsoyearMod100),
-            7 => Some(Field::Quarter),
-            8 => Some(Field::Month),
-            9 => Some(Field::WeekFromSun),
-            10 => Some(Field::WeekFromMon),
-            11 => Some(Field::Isoweek),
-            12 => Some(Field::Weekday),
-            13 => Some(Field::Ordinal),
-            14 => Some(Field::Day),
-            15 => Some(Field::HourDiv12),
-            16 => Some(Field::HourMod12),
-            17 => Some(Field::Minute),
-            18 => Some(Field::Second),
-            19 => Some(Field::Nanosecond),
-            20 => Some(Field::Timestamp),
-            21 => Some(Field::Offset),
-            _ => None,
-        }
-    }
-
     // The least and the largest value that the field may hold.
+    #[tactic(auto, unfolding(crate::specs::Fields::range))]
     pub fn range(self) -> (i64, i64)
         ensures { range (field_number self) ≡ Some result }
     {
         match self {
-            Field::Year | Field::Isoyear | Field::Offset => (i32::MIN as i64, i32::MAX as i64),
-            Field::YearDiv100 | Field::IsoyearDiv100 => (0, i32::MAX as i64),
+            Field::Year | Field::Isoyear | Field::Offset => (
+                i64::from(i32::MIN),
+                i64::from(i32::MAX),
+            ),
+            Field::YearDiv100 | Field::IsoyearDiv100 => (0, i64::from(i32::MAX)),
             Field::YearMod100 | Field::IsoyearMod100 => (0, 99),
             Field::Quarter => (1, 4),
             Field::Month => (1, 12),
@@ -137,7 +114,7 @@ impl Field {
         ensures { result ≡ fits (field_number self) value }
     {
         let (low, high) = self.range();
-        low <= value && value <= high
+        (low..=high).contains(&value)
     }
 
     // As chrono calls it.
@@ -166,6 +143,40 @@ impl Field {
             Field::Nanosecond => "nanosecond",
             Field::Timestamp => "timestamp",
             Field::Offset => "offset",
+        }
+    }
+}
+
+// The field of a number. The number of no field is refused as an offer to it is, with 0 in place of a field.
+impl TryFrom<u8> for Field {
+    type Error = Cause;
+
+    ghost try_from_gives = { λ n r. MatchResult r (λ f. field_number f ≡ n) (λ w. (range n ≡ None) × (w ≡ no_field)) };
+
+    fn try_from(number: u8) -> Result<Field, Cause> {
+        match number {
+            1 => Ok(Field::Year),
+            2 => Ok(Field::YearDiv100),
+            3 => Ok(Field::YearMod100),
+            4 => Ok(Field::Isoyear),
+            5 => Ok(Field::IsoyearDiv100),
+            6 => Ok(Field::IsoyearMod100),
+            7 => Ok(Field::Quarter),
+            8 => Ok(Field::Month),
+            9 => Ok(Field::WeekFromSun),
+            10 => Ok(Field::WeekFromMon),
+            11 => Ok(Field::Isoweek),
+            12 => Ok(Field::Weekday),
+            13 => Ok(Field::Ordinal),
+            14 => Ok(Field::Day),
+            15 => Ok(Field::HourDiv12),
+            16 => Ok(Field::HourMod12),
+            17 => Ok(Field::Minute),
+            18 => Ok(Field::Second),
+            19 => Ok(Field::Nanosecond),
+            20 => Ok(Field::Timestamp),
+            21 => Ok(Field::Offset),
+            _ => Err(Cause::of_field(ParseErrorKind::OutOfRange, 0)),
         }
     }
 }

@@ -1,5 +1,5 @@
 -- What is written of a refusal, by its layer and its kind.
-use Rattle.std.proofs.Common.{◌≡◌, ℕ, List, ◌++◌, None, codes, sym, refl, ap, ◌∙◌}
+use Rattle.std.proofs.Common.{◌≡◌, ℕ, List, ◌++◌, codes, sym, refl, ap, ◌∙◌}
 use Rattle.std.proofs.Output.{has_written_of_eq}
 use Rattle.scan.specs.Kinds.{kind_text}
 use Rattle.scan.specs.declared.kind.ParseErrorKind.{ParseErrorKind}
@@ -13,9 +13,6 @@ use Rattle.collect.proofs.Ranges.{has_range, label_field}
 use Rattle.collect.proofs.fault.CauseDisplay.fmt.Goals as goal
 
 module _ (w : Cause) (n : ℕ) (at : w.layer ≡ layer.Field n) where
-  of_none : range n ≡ None → codes "no field has this number" ≡ cause_text w
-  of_none h = ap (λ o. field_refused n o w.kind) (sym h) ∙ ap (λ l. refused_text l w.kind) (sym at)
-
   of_field : (x : Field) → field_number x ≡ n → field_name x ++ wrong w.kind ≡ cause_text w
   of_field x e =
       ap (λ l. l ++ wrong w.kind) (sym (label_field x))
@@ -34,23 +31,18 @@ others TooLong p q = refl
 others BadFormat p q = refl
 others NotText p q = refl
 
-pub returns-in_default-of-clause-writes : goal.returns-in_default-of-clause-writes
-returns-in_default-of-clause-writes g c = λ p ok.
-    has_written_of_eq g.W.Write.write_str_gives c.args.f.now (codes "no field has this number") (cause_text c.args.self.now) c.write-in_default-of.new.self (of_none c.args.self.now c.in-Field.number c.in-Field.is c.in_default-of.ensures)
-    (c.write-in_default-of.ensures.writes p ok)
-
 pub returns-in-OutOfRange-clause-writes : goal.returns-in-OutOfRange-clause-writes
 returns-in-OutOfRange-clause-writes g c = λ p ok.
-    let e = of_kind c.args.self.now c.in-Field.number c.in-Field.is c.in-Some.field OutOfRange (codes " is out of range") c.in-OutOfRange.is refl c.in-Some.ensures in
+    let e = of_kind c.args.self.now c.in-Field.number c.in-Field.is c.in-Ok.field OutOfRange (codes " is out of range") c.in-OutOfRange.is refl c.in-Ok.ensures in
     has_written_of_eq g.W.Write.write_str_gives c.args.f.now _ (cause_text c.args.self.now) c.write-in-OutOfRange.new.self e (c.write-in-OutOfRange.ensures.writes p ok)
 
 pub returns-in-Impossible-clause-writes : goal.returns-in-Impossible-clause-writes
 returns-in-Impossible-clause-writes g c = λ p ok.
-    let e = of_kind c.args.self.now c.in-Field.number c.in-Field.is c.in-Some.field Impossible (codes " holds another value") c.in-Impossible.is refl c.in-Some.ensures in
+    let e = of_kind c.args.self.now c.in-Field.number c.in-Field.is c.in-Ok.field Impossible (codes " holds another value") c.in-Impossible.is refl c.in-Ok.ensures in
     has_written_of_eq g.W.Write.write_str_gives c.args.f.now _ (cause_text c.args.self.now) c.write-in-Impossible.new.self e (c.write-in-Impossible.ensures.writes p ok)
 
 pub returns-in_default-kind-clause-writes : goal.returns-in_default-kind-clause-writes
 returns-in_default-kind-clause-writes g c = λ p ok.
     let k = c.args.self.now.kind in
-    let e = of_kind c.args.self.now c.in-Field.number c.in-Field.is c.in-Some.field k (codes ": " ++ kind_text k) refl (others k c.in_default-kind.not-OutOfRange c.in_default-kind.not-Impossible) c.in-Some.ensures in
+    let e = of_kind c.args.self.now c.in-Field.number c.in-Field.is c.in-Ok.field k (codes ": " ++ kind_text k) refl (others k c.in_default-kind.not-OutOfRange c.in_default-kind.not-Impossible) c.in-Ok.ensures in
     has_written_of_eq g.W.Write.write_str_gives c.args.f.now _ (cause_text c.args.self.now) c.write-in_default-kind.new.self e (c.write-in_default-kind.ensures.writes p ok)
