@@ -46,10 +46,7 @@ pub(crate) enum Command {
 impl fmt::Display for Command {
     fn fmt<W: fmt::Write>(&self, f: &mut fmt::Formatter<W>) -> fmt::Result {
         match *self {
-            Command::Set(setter, value) => {
-                let name = setter.name();
-                write!(f, "{name} {value}")
-            }
+            Command::Set(setter, value) => write!(f, "{setter} {value}"),
             Command::Show => f.write_str("show"),
             Command::New => f.write_str("new"),
         }
@@ -61,22 +58,22 @@ pub(crate) fn command_of(verb: Verb, text: &str, place: usize) -> Result<Command
     let mut words = text.split_whitespace();
     let command = match verb {
         Verb::Set => {
-            let setter = Setter::named(words.next().unwrap_or_default()).ok_or(Refusal::because(
-                ParseErrorKind::BadFormat,
-                place,
-                "no field is set by this name",
-            ))?;
-            let value = words
-                .next()
-                .unwrap_or_default()
-                .parse::<i64>()
-                .map_err(|_| {
-                    Refusal::because(
-                        ParseErrorKind::Invalid,
-                        place,
-                        "the value is no whole number of 64 bits",
-                    )
-                })?;
+            let name = words.next().unwrap_or_default();
+            let setter = name.parse::<Setter>().map_err(|_| {
+                Refusal::because(
+                    ParseErrorKind::BadFormat,
+                    place,
+                    "no field is set by this name",
+                )
+            })?;
+            let number = words.next().unwrap_or_default();
+            let value = number.parse::<i64>().map_err(|_| {
+                Refusal::because(
+                    ParseErrorKind::Invalid,
+                    place,
+                    "the value is no whole number of 64 bits",
+                )
+            })?;
             Command::Set(setter, value)
         }
         Verb::Show => Command::Show,
