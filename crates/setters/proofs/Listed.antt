@@ -1,5 +1,6 @@
 -- Every setter stands in the list of all.
-use Rattle.std.proofs.Common.{◌≡◌, ℕ, ◌<◌, ◌≤◌, List, [], ◌∷◌, get_or, refl, ap, ◌∙◌, arith, lit<}
+use Rattle.std.proofs.Common.{◌≡◌, ◌≢◌, ℕ, ◌<◌, List, [], ◌∷◌, length, get_or, refl, ap, ◌∙◌, arith, lit<}
+use Rattle.std.specs.List.{AllWithin}
 use Rattle.setters.specs.Names.{setter_name}
 use Rattle.setters.specs.declared.setter.Setter.{Setter}
 use Rattle.setters.specs.declared.setter.Setter.TheVariants.{Year, YearDiv100, YearMod100, Isoyear, IsoyearDiv100, IsoyearMod100, Quarter, Month, WeekFromSun, WeekFromMon, Isoweek, Weekday, Ordinal, Day, Ampm, Hour12, Hour, Minute, Second, Nanosecond, Timestamp, Offset}
@@ -31,5 +32,5 @@ place Nanosecond = (19, lit< tt, refl)
 place Timestamp = (20, lit< tt, refl)
 place Offset = (21, lit< tt, refl)
 
-pub listed : (w : List ℕ) (n : ℕ) → 22 ≤ n → ((k : ℕ) → k < n → setter_name (get_or every k Year) ≡ w → ⊥) → (x : Setter) → setter_name x ≡ w → ⊥
-listed w n h inv x e = let p = place x in inv p.0 (omega (arith, p.1)) (ap setter_name p.2 ∙ e)
+pub listed : (w : List ℕ) → AllWithin (λ x. setter_name x ≢ w) every 0 (length every) → (x : Setter) → setter_name x ≢ w
+listed w h x = let p = place x in λ e. h p.0 Year (omega arith) p.1 (ap setter_name p.2 ∙ e)

@@ -15,6 +15,7 @@ use collect::collector::Collector;
 use collect::fault::Fault;
 use collect::field::Field;
 
+// Apart from `set`, so that the laws are proved once, and not in each arm.
 fn chosen<C: Collector>(c: &mut C, setter: Setter, value: i64) -> Result<(), Fault>
     ensures { Takes C.Collector.offered c.old (tries setter value) (told nowhere result) c.new }
 {

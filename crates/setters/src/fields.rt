@@ -1,4 +1,4 @@
-// The setters of a record, over any collector.
+// The setters of a record, over any collector. Each is called by chrono's name; what they have in common is `give`.
 ghost use Rattle.std.specs.Prelude.{◌≡◌, ℤ, pos, if◌then◌else◌, Err};
 ghost use Rattle.names.specs.Days.{day_number};
 ghost use Rattle.collect.specs.Chain.{Takes};
@@ -7,7 +7,7 @@ ghost use Rattle.setters.specs.Setters.{one_offer, not_offered, halves_of, clock
 
 use super::setter::Setter;
 use collect::collector::Collector;
-use collect::fault::{Cause, Fault, Layer};
+use collect::fault::{Cause, Fault};
 use collect::field::Field;
 use names::weekday::Weekday;
 use scan::kind::ParseErrorKind;
@@ -16,28 +16,14 @@ use scan::kind::ParseErrorKind;
 fn out_of_range(field: Field) -> Fault
     ensures { told {A = Unit {0}} nowhere (Err result) ≡ (not_offered field).ending }
 {
-    Fault {
-        cause: Cause {
-            kind: ParseErrorKind::OutOfRange,
-            layer: Layer::Field(field.number()),
-        },
-        item: 0,
-        place: 0,
-    }
+    Fault::from(Cause::of_field(ParseErrorKind::OutOfRange, field.number()))
 }
 
 // One offer, by no item and at no place.
 pub(crate) fn give<C: Collector>(c: &mut C, field: Field, value: i64) -> Result<(), Fault>
     ensures { Takes C.Collector.offered c.old (one_offer field value) (told nowhere result) c.new }
 {
-    match c.offer(field.number(), value) {
-        Ok(()) => Ok(()),
-        Err(cause) => Err(Fault {
-            cause,
-            item: 0,
-            place: 0,
-        }),
-    }
+    Ok(c.offer(field.number(), value)?)
 }
 
 pub fn set_year<C: Collector>(c: &mut C, value: i64) -> Result<(), Fault>
@@ -109,7 +95,7 @@ pub fn set_isoweek<C: Collector>(c: &mut C, value: i64) -> Result<(), Fault>
 pub fn set_weekday<C: Collector>(c: &mut C, value: Weekday) -> Result<(), Fault>
     ensures { Takes C.Collector.offered c.old (tries Setter.Weekday (pos (day_number value))) (told nowhere result) c.new }
 {
-    give(c, Field::Weekday, value.num_days_from_monday() as i64)
+    give(c, Field::Weekday, i64::from(value.num_days_from_monday()))
 }
 
 pub fn set_ordinal<C: Collector>(c: &mut C, value: i64) -> Result<(), Fault>
@@ -128,7 +114,7 @@ pub fn set_day<C: Collector>(c: &mut C, value: i64) -> Result<(), Fault>
 pub fn set_ampm<C: Collector>(c: &mut C, value: bool) -> Result<(), Fault>
     ensures { Takes C.Collector.offered c.old (tries Setter.Ampm (if value then pos 1 else pos 0)) (told nowhere result) c.new }
 {
-    give(c, Field::HourDiv12, value as i64)
+    give(c, Field::HourDiv12, i64::from(value))
 }
 
 // The hours since midnight or noon that a clock of 12 hours shows.
@@ -146,10 +132,8 @@ fn on_clock(value: i64) -> Option<i64>
 pub fn set_hour12<C: Collector>(c: &mut C, value: i64) -> Result<(), Fault>
     ensures { Takes C.Collector.offered c.old (tries Setter.Hour12 value) (told nowhere result) c.new }
 {
-    match on_clock(value) {
-        Some(hour) => give(c, Field::HourMod12, hour),
-        None => Err(out_of_range(Field::HourMod12)),
-    }
+    let hour = on_clock(value).ok_or(out_of_range(Field::HourMod12))?;
+    give(c, Field::HourMod12, hour)
 }
 
 // The half of the day that an hour lies in, and its hour of that.
@@ -167,9 +151,7 @@ fn halves(value: i64) -> Option<(i64, i64)>
 pub fn set_hour<C: Collector>(c: &mut C, value: i64) -> Result<(), Fault>
     ensures { Takes C.Collector.offered c.old (tries Setter.Hour value) (told nowhere result) c.new }
 {
-    let Some((half, hour)) = halves(value) else {
-        return Err(out_of_range(Field::HourDiv12));
-    };
+    let (half, hour) = halves(value).ok_or(out_of_range(Field::HourDiv12))?;
     give(c, Field::HourDiv12, half)?;
     give(c, Field::HourMod12, hour)
 }

@@ -1,6 +1,10 @@
 // Which setter.
-ghost use Rattle.std.specs.Prelude.{◌≡◌, MatchOption, ◌≢◌};
+ghost use Rattle.std.specs.Prelude.{◌≡◌, Some, MatchResult, codes, ◌≢◌};
 ghost use Rattle.setters.specs.Names.{setter_name};
+ghost use Rattle.setters.specs.declared.setter.Setter.{Setter};
+
+use std::fmt;
+use std::str::FromStr;
 
 #[derive(Clone, Copy, PartialEq, Eq, Debug)]
 pub enum Setter {
@@ -83,16 +87,38 @@ impl Setter {
             Setter::Offset => "offset",
         }
     }
+}
 
-    // The setter of a name, if there is one.
-    pub fn named(name: &str) -> Option<Setter>
-        ensures { MatchOption result ((x : Setter) → setter_name x ≢ name.now) (λ x. setter_name x ≡ name.now) }
-    {
-        for setter in Setter::ALL.iter() {
-            if setter.name() == name {
-                return Some(*setter);
-            }
-        }
-        None
+impl fmt::Display for Setter {
+    ghost output = { λ x. Some (setter_name x) };
+
+    fn fmt<W: fmt::Write>(&self, f: &mut fmt::Formatter<W>) -> fmt::Result {
+        f.write_str(self.name())
+    }
+}
+
+// No setter has the name.
+#[derive(Clone, Copy, PartialEq, Eq, Debug)]
+pub struct UnknownSetter;
+
+impl fmt::Display for UnknownSetter {
+    ghost output = { λ _. Some (codes "no field is set by this name") };
+
+    fn fmt<W: fmt::Write>(&self, f: &mut fmt::Formatter<W>) -> fmt::Result {
+        f.write_str("no field is set by this name")
+    }
+}
+
+// The setter of a name, if there is one.
+impl FromStr for Setter {
+    type Err = UnknownSetter;
+
+    ghost from_str_gives = { λ name r. MatchResult r (λ x. setter_name x ≡ name) (λ _. (x : Setter) → setter_name x ≢ name) };
+
+    fn from_str(name: &str) -> Result<Setter, UnknownSetter> {
+        Setter::ALL
+            .into_iter()
+            .find(|setter| setter.name() == name)
+            .ok_or(UnknownSetter)
     }
 }

@@ -1,5 +1,5 @@
 -- What the lines about the record do to it.
-use Rattle.std.specs.Prelude.{◌≡◌, ℕ, List, [], ◌∷◌, Some, None, Ok, codes, Option, Result, ◌≢◌}
+use Rattle.std.specs.Prelude.{◌≡◌, ℕ, List, [], ◌∷◌, None, Ok, codes, Result}
 use Rattle.collect.specs.Chain.{Takes}
 use Rattle.collect.specs.Faults.{told, nowhere}
 use Rattle.collect.specs.Judge.{Offered}
@@ -15,11 +15,6 @@ use Rattle.stamps.specs.declared.record.Command.TheVariants.{Set, Show, New}
 -- the word for each verb
 abbrev pub verbs : List (List ℕ × Verb)
 verbs = (codes "set", verb.Set) ∷ (codes "show", verb.Show) ∷ (codes "new", verb.New) ∷ []
-
--- a word stands for what is beside it, and any other word for nothing
-abbrev pub Stands : {A : Type 0} → List (List ℕ × A) → List ℕ → Option A → Type 0
-Stands [] w r = r ≡ None
-Stands (f ∷ fs) w r = (w ≡ f.0 → r ≡ Some f.1) × ((w ≢ f.0) → Stands fs w r)
 
 -- a setter is the chain of its offers, a look alters nothing, and a new record holds nothing
 abbrev pub Obeyed : Command → Parsed → Result (Unit {0}) Fault → Parsed → Type 0

@@ -1,5 +1,5 @@
 -- What each form of a field reads, by the definitions of the leaves.
-use Rattle.std.specs.Prelude.{◌≡◌, ℕ, true, List, [], ◌∷◌, Some, None, Ok, codes, Option, Result, ◌≢◌}
+use Rattle.std.specs.Prelude.{ℕ, true, List, [], ◌∷◌, Ok, codes, Result}
 use Rattle.comments.specs.Comments.{comment_at}
 use Rattle.names.specs.Names.{short_or_long_month0_at, short_or_long_weekday_at}
 use Rattle.scan.specs.Numbers.{nanosecond_at, year_2822_at}
@@ -27,8 +27,3 @@ abbrev pub words : List (List ℕ × Form)
 words =
     (codes "zone", Zone) ∷ (codes "mailzone", MailZone) ∷ (codes "fraction", Fraction) ∷ (codes "month", Month) ∷ (codes "weekday", Weekday)
     ∷ (codes "comment", Comment) ∷ (codes "mailyear", MailYear) ∷ []
-
--- a word stands for the form beside it, and any other word for none
-abbrev pub Named : List (List ℕ × Form) → List ℕ → Option Form → Type 0
-Named [] w r = r ≡ None
-Named (f ∷ fs) w r = (w ≡ f.0 → r ≡ Some f.1) × ((w ≢ f.0) → Named fs w r)

@@ -1,2 +1,3 @@
+pub mod Words
 pub mod Fields
 pub mod Commands

@@ -1,13 +1,17 @@
 // The fields that a line may hold.
 ghost use Rattle.std.specs.Prelude.{◌≡◌};
+ghost use Rattle.std.specs.Result.{result_ok};
 ghost use Rattle.scan.specs.Steps.{Cuts};
-ghost use Rattle.stamps.specs.Fields.{Named, read_at, words};
+ghost use Rattle.stamps.specs.Fields.{read_at, words};
+ghost use Rattle.stamps.specs.Words.{Stands};
 
+use super::line::UnknownWord;
 use names::names::{short_or_long_month0, short_or_long_weekday};
 use names::weekday::Weekday;
 use scan::kind::ParseErrorKind;
 use scan::number::{nanosecond, year_2822};
 use std::fmt;
+use std::str::FromStr;
 use zones::mail::timezone_offset_2822;
 use zones::offset::timezone_offset;
 use zones::separator::ColonOrSpace;
@@ -24,18 +28,22 @@ pub(crate) enum Form {
 }
 
 // What the first word of a line stands for.
-pub(crate) fn form_of(word: &[u8]) -> Option<Form>
-    ensures { Named words word.now result }
-{
-    match word {
-        b"zone" => Some(Form::Zone),
-        b"mailzone" => Some(Form::MailZone),
-        b"fraction" => Some(Form::Fraction),
-        b"month" => Some(Form::Month),
-        b"weekday" => Some(Form::Weekday),
-        b"comment" => Some(Form::Comment),
-        b"mailyear" => Some(Form::MailYear),
-        _ => None,
+impl FromStr for Form {
+    type Err = UnknownWord;
+
+    ghost from_str_gives = { λ word r. Stands words word (result_ok r) };
+
+    fn from_str(word: &str) -> Result<Form, UnknownWord> {
+        match word {
+            "zone" => Ok(Form::Zone),
+            "mailzone" => Ok(Form::MailZone),
+            "fraction" => Ok(Form::Fraction),
+            "month" => Ok(Form::Month),
+            "weekday" => Ok(Form::Weekday),
+            "comment" => Ok(Form::Comment),
+            "mailyear" => Ok(Form::MailYear),
+            _ => Err(UnknownWord),
+        }
     }
 }
 
@@ -68,38 +76,23 @@ impl fmt::Display for Value {
 }
 
 // The field in front of a text, and how many bytes it takes.
+#[tactic(auto, unfolding(crate::specs::Fields::read_at))]
 pub(crate) fn read(form: Form, s: &[u8]) -> Result<(Value, usize), ParseErrorKind>
     ensures value { result ≡ read_at form s.now }
     ensures cut { Cuts s.now result }
 {
     match form {
-        Form::Zone => match timezone_offset(s, &mut ColonOrSpace, true, true, true) {
-            Ok((seconds, n)) => Ok((Value::Offset(seconds), n)),
-            Err(kind) => Err(kind),
-        },
-        Form::MailZone => match timezone_offset_2822(s) {
-            Ok((seconds, n)) => Ok((Value::Offset(seconds), n)),
-            Err(kind) => Err(kind),
-        },
-        Form::Fraction => match nanosecond(s) {
-            Ok((nanos, n)) => Ok((Value::Nanoseconds(nanos), n)),
-            Err(kind) => Err(kind),
-        },
-        Form::Month => match short_or_long_month0(s) {
-            Ok((month0, n)) => Ok((Value::Month0(month0), n)),
-            Err(kind) => Err(kind),
-        },
-        Form::Weekday => match short_or_long_weekday(s) {
-            Ok((day, n)) => Ok((Value::Day(day), n)),
-            Err(kind) => Err(kind),
-        },
-        Form::Comment => match comments::comment_2822(s) {
-            Ok(n) => Ok((Value::Comment, n)),
-            Err(kind) => Err(kind),
-        },
-        Form::MailYear => match year_2822(s) {
-            Ok((year, n)) => Ok((Value::Year(year), n)),
-            Err(kind) => Err(kind),
-        },
+        Form::Zone => {
+            let offset = timezone_offset(s, &mut ColonOrSpace, true, true, true);
+            offset.map(|(seconds, n)| (Value::Offset(seconds), n))
+        }
+        Form::MailZone => {
+            timezone_offset_2822(s).map(|(seconds, n)| (Value::Offset(seconds), n))
+        }
+        Form::Fraction => nanosecond(s).map(|(nanos, n)| (Value::Nanoseconds(nanos), n)),
+        Form::Month => short_or_long_month0(s).map(|(month0, n)| (Value::Month0(month0), n)),
+        Form::Weekday => short_or_long_weekday(s).map(|(day, n)| (Value::Day(day), n)),
+        Form::Comment => comments::comment_2822(s).map(|n| (Value::Comment, n)),
+        Form::MailYear => year_2822(s).map(|(year, n)| (Value::Year(year), n)),
     }
 }

@@ -1,8 +1,6 @@
 // One line: a word, blanks, and what the word says.
-ghost use Rattle.std.specs.Prelude.{IsUtf8};
-
-use super::form::{Value, form_of, read};
-use super::record::{Command, command_of, verb_of};
+use super::form::{Form, Value, read};
+use super::record::{Command, Verb, command_of};
 use scan::kind::ParseErrorKind;
 use std::fmt;
 
@@ -28,6 +26,10 @@ pub(crate) enum Line<'t> {
     Field(Field<'t>),
     Record(Command),
 }
+
+// The word stands for nothing.
+#[derive(Clone, Copy)]
+pub(crate) struct UnknownWord;
 
 #[derive(Clone, Copy)]
 pub(crate) struct Refusal {
@@ -68,41 +70,25 @@ impl fmt::Display for Refusal {
     }
 }
 
-fn as_text(bytes: &[u8]) -> &str
-    requires { IsUtf8 bytes.now }
-{
-    match std::str::from_utf8(bytes) {
-        Ok(text) => text,
-        Err(_) => unreachable(),
+pub(crate) fn read_line(bytes: &[u8]) -> Result<Line<'_>, Refusal> {
+    let line = std::str::from_utf8(bytes).map_err(|e| Refusal::new(
+        ParseErrorKind::NotText,
+        e.valid_up_to(),
+    ))?;
+    let (word, rest) = line.split_at(text::non_blanks(line.as_bytes()));
+    let (blanks, rest) = rest.split_at(text::blanks(rest.as_bytes()));
+    let place = word.len() + blanks.len();
+    if let Ok(verb) = word.parse::<Verb>() {
+        return Ok(Line::Record(command_of(verb, rest, place)?));
     }
-}
-
-pub(crate) fn read_line(line: &[u8]) -> Result<Line<'_>, Refusal> {
-    if let Err(place) = text::check_text(line) {
-        return Err(Refusal::new(ParseErrorKind::NotText, place));
-    }
-    let n = text::non_blanks(line);
-    let word = &line[0..n];
-    let place = n + text::blanks(&line[n..]);
-    if let Some(verb) = verb_of(word) {
-        return match command_of(verb, as_text(&line[place..]), place) {
-            Ok(command) => Ok(Line::Record(command)),
-            Err(refusal) => Err(refusal),
-        };
-    }
-    let Some(form) = form_of(word) else {
-        return Err(Refusal::because(
+    let form = word.parse::<Form>().map_err(|_| {
+        Refusal::because(
             ParseErrorKind::BadFormat,
             0,
             "the first word names no field, --help lists them",
-        ));
-    };
-    match read(form, &line[place..]) {
-        Ok((value, taken)) => Ok(Line::Field(Field {
-            value,
-            taken,
-            left: as_text(&line[place + taken..]),
-        })),
-        Err(kind) => Err(Refusal::new(kind, place)),
-    }
+        )
+    })?;
+    let (value, taken) = read(form, rest.as_bytes()).map_err(|kind| Refusal::new(kind, place))?;
+    let left = &rest[taken..];
+    Ok(Line::Field(Field { value, taken, left }))
 }

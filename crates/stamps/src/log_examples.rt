@@ -70,9 +70,7 @@ const LOG: [(&str, &str); 21] = [
 fn record_lines(rt: HostRuntime) -> Result<(), Fail> {
     let heap = rt.alloc();
     let mut record = Parsed::new();
-    let mut number: u64 = 0;
-    for (line, want) in LOG {
-        number = number.saturating_add(1);
+    for ((line, want), number) in LOG.into_iter().zip(1u64..) {
         let mut out = Vec::new(heap);
         answer(&mut out, &mut record, number, line.as_bytes())?;
         let want = format!(in heap; "{number}: {want}\n")?;

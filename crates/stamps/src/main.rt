@@ -60,11 +60,9 @@ fn main(rt: HostRuntime) -> io::Result<()> {
     }
     let mut out = BufWriter::new(heap, rt.stdout())?;
     let mut record = Parsed::new();
-    let mut number: u64 = 0;
-    for bytes in BufReader::new(heap, rt.stdin())?.split(heap, b'\n') {
-        let bytes = bytes?;
-        number = number.saturating_add(1);
-        answer(&mut out, &mut record, number, &bytes)?;
+    let lines = BufReader::new(heap, rt.stdin())?.split(heap, b'\n');
+    for (bytes, number) in lines.zip(1u64..) {
+        answer(&mut out, &mut record, number, &bytes?)?;
     }
     out.flush()
 }

@@ -1,14 +1,17 @@
 // Lines about the current record: set a field of it, show it, begin a new one.
 ghost use Rattle.std.specs.Prelude.{◌≡◌};
-ghost use Rattle.stamps.specs.Commands.{verbs, Stands, Obeyed};
+ghost use Rattle.std.specs.Result.{result_ok};
+ghost use Rattle.stamps.specs.Commands.{verbs, Obeyed};
+ghost use Rattle.stamps.specs.Words.{Stands};
 
-use super::line::Refusal;
+use super::line::{Refusal, UnknownWord};
 use collect::fault::Fault;
 use parsed::Parsed;
 use scan::kind::ParseErrorKind;
 use setters::choice::set;
 use setters::setter::Setter;
 use std::fmt;
+use std::str::FromStr;
 
 #[derive(Clone, Copy)]
 pub(crate) enum Verb {
@@ -18,14 +21,18 @@ pub(crate) enum Verb {
 }
 
 // What the first word of a line says to do.
-pub(crate) fn verb_of(word: &[u8]) -> Option<Verb>
-    ensures { Stands verbs word.now result }
-{
-    match word {
-        b"set" => Some(Verb::Set),
-        b"show" => Some(Verb::Show),
-        b"new" => Some(Verb::New),
-        _ => None,
+impl FromStr for Verb {
+    type Err = UnknownWord;
+
+    ghost from_str_gives = { λ word r. Stands verbs word (result_ok r) };
+
+    fn from_str(word: &str) -> Result<Verb, UnknownWord> {
+        match word {
+            "set" => Ok(Verb::Set),
+            "show" => Ok(Verb::Show),
+            "new" => Ok(Verb::New),
+            _ => Err(UnknownWord),
+        }
     }
 }
 
@@ -39,10 +46,7 @@ pub(crate) enum Command {
 impl fmt::Display for Command {
     fn fmt<W: fmt::Write>(&self, f: &mut fmt::Formatter<W>) -> fmt::Result {
         match *self {
-            Command::Set(setter, value) => {
-                let name = setter.name();
-                write!(f, "{name} {value}")
-            }
+            Command::Set(setter, value) => write!(f, "{setter} {value}"),
             Command::Show => f.write_str("show"),
             Command::New => f.write_str("new"),
         }
@@ -54,33 +58,35 @@ pub(crate) fn command_of(verb: Verb, text: &str, place: usize) -> Result<Command
     let mut words = text.split_whitespace();
     let command = match verb {
         Verb::Set => {
-            let Some(setter) = Setter::named(words.next().unwrap_or("")) else {
-                return Err(Refusal::because(
+            let name = words.next().unwrap_or_default();
+            let setter = name.parse::<Setter>().map_err(|_| {
+                Refusal::because(
                     ParseErrorKind::BadFormat,
                     place,
                     "no field is set by this name",
-                ));
-            };
-            let Ok(value) = words.next().unwrap_or("").parse::<i64>() else {
-                return Err(Refusal::because(
+                )
+            })?;
+            let number = words.next().unwrap_or_default();
+            let value = number.parse::<i64>().map_err(|_| {
+                Refusal::because(
                     ParseErrorKind::Invalid,
                     place,
                     "the value is no whole number of 64 bits",
-                ));
-            };
+                )
+            })?;
             Command::Set(setter, value)
         }
         Verb::Show => Command::Show,
         Verb::New => Command::New,
     };
-    match words.next() {
-        None => Ok(command),
-        Some(_) => Err(Refusal::because(
+    if words.next().is_some() {
+        return Err(Refusal::because(
             ParseErrorKind::TooLong,
             place,
             "more words than the line takes",
-        )),
+        ));
     }
+    Ok(command)
 }
 
 // Does what a line says to the record. A refusal leaves what was granted.

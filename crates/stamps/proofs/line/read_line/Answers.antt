@@ -1,28 +1,24 @@
-use Rattle.std.proofs.Common.{◌≡◌, ℕ, ◌+◌, List, drop, IsUtf8, sym, subst}
-use Rattle.std.proofs.lemmas.List.{take_rest}
+use Rattle.std.proofs.Common.{◌≡◌, ℕ, List, IsUtf8, IfOk, Ok, Err, Result, MatchResult, sym, subst}
+use Rattle.std.specs.Str.{IsCharBoundary}
+use Rattle.std.proofs.lemmas.Str.{IsCharBoundary-from_drop}
 use Rattle.text.specs.Cuts.{Cut}
-use Rattle.text.proofs.Cutting.{cut_more}
+use Rattle.stamps.specs.declared.line.Refusal.{Refusal}
 use Rattle.stamps.proofs.line.read_line.Goals as goal
 
--- what is left of a text is a text
-past : (s t : List ℕ) (n b : ℕ) → Cut s n → t ≡ drop n s → Cut t b → Cut s (n + b)
-past s t n b c e d = cut_more s n b c (subst (λ x. Cut x b) e d)
+-- where a text is cut, a character begins
+boundary : (s t : List ℕ) (n : ℕ) → Cut s n → IsUtf8 s → s ≡ t → IsCharBoundary t n
+boundary s t n c u e = subst (λ x. IsCharBoundary x n) e (IsCharBoundary-from_drop s n c.within (c.left u))
 
-left : (s t u : List ℕ) (n b m : ℕ) → IsUtf8 s → Cut s n → t ≡ drop n s → Cut t b → u ≡ drop (n + b) s → Cut u m → IsUtf8 (drop (n + b + m) s)
-left s t u n b m h c e d f g = (cut_more s (n + b) m (past s t n b c e d) (subst (λ x. Cut x m) f g)).left h
+-- a granted answer that `map_err` let by is the answer that was given
+granted : {A E : Type 0} (P : A → Type 0) (r : Result A E) (x : A) → MatchResult r (λ y. ◌≡◌ {A = Result A Refusal} (Ok x) (Ok y)) (λ _. ⊥) → IfOk r P → P x
+granted P (Ok y) x h p = let e : x ≡ y = cc in subst P (sym e) p
+granted P (Err e) x h p = absurd h
 
-pub as_text-requires : goal.as_text-requires
-as_text-requires c =
-    let s = c.args.line.now in
-    let n = c.non_blanks-n.result in
-    let b = c.blanks.result in
-    subst IsUtf8 (sym (take_rest s (n + b))) ((past s _ n b c.non_blanks-n.ensures.cut (take_rest s n) c.blanks.ensures.cut).left c.in_default.ensures.meaning)
+pub split_at-requires : goal.split_at-requires
+split_at-requires c = boundary _ _ _ c.non_blanks.ensures.cut c.as_bytes.ensures.utf8 c.as_bytes.ensures.value
 
-pub as_text-requires-in-Ok-read : goal.as_text-requires-in-Ok-read
-as_text-requires-in-Ok-read c =
-    let s = c.args.line.now in
-    let n = c.non_blanks-n.result in
-    let b = c.blanks.result in
-    let m = c.in-Ok-read.taken in
-    subst IsUtf8 (sym (take_rest s (n + b + m)))
-    (left s _ _ n b m c.in_default.ensures.meaning c.non_blanks-n.ensures.cut (take_rest s n) c.blanks.ensures.cut (take_rest s (n + b)) c.in-Ok-read.ensures.cut)
+pub split_at-requires-2 : goal.split_at-requires-2
+split_at-requires-2 c = boundary _ _ _ c.blanks.ensures.cut c.as_bytes-2.ensures.utf8 c.as_bytes-2.ensures.value
+
+pub range_from-left-requires : goal.range_from-left-requires
+range_from-left-requires c = λ _. boundary _ _ _ (granted (λ p. Cut c.as_bytes-3.result.now p.1) c.read.result (c.in_ok-value.value, c.in_ok-value.taken) c.in_ok-value.ensures.cases c.read.ensures.cut) c.as_bytes-3.ensures.utf8 c.as_bytes-3.ensures.value
