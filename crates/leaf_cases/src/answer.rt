@@ -3,67 +3,57 @@ use names::weekday::Weekday;
 use scan::kind::ParseErrorKind;
 use std::fmt;
 
+// What is read, and how many bytes it takes.
 #[derive(Clone, Copy)]
-pub(crate) enum Answer {
-    Value(i64, usize),
+pub(crate) enum Reading {
+    Number(i64, usize),
     Day(Weekday, usize),
-    Taken(usize),
-    Refused(ParseErrorKind),
-    NotText(usize),
-    Unknown,
+    Bytes(usize),
 }
 
-impl fmt::Display for Answer {
+impl Reading {
+    pub(crate) fn number<T: Into<i64>>((value, n): (T, usize)) -> Reading {
+        Reading::Number(value.into(), n)
+    }
+
+    pub(crate) fn day((day, n): (Weekday, usize)) -> Reading {
+        Reading::Day(day, n)
+    }
+}
+
+impl fmt::Display for Reading {
     fn fmt<W: fmt::Write>(&self, f: &mut fmt::Formatter<W>) -> fmt::Result {
         match *self {
-            Answer::Value(value, n) => write!(f, "ok {value} {n}"),
-            Answer::Day(day, n) => write!(f, "ok {day} {n}"),
-            Answer::Taken(n) => write!(f, "ok {n}"),
-            Answer::Refused(kind) => write!(f, "err {kind:?}"),
-            Answer::NotText(n) => write!(f, "nottext {n}"),
-            Answer::Unknown => write!(f, "unknown"),
+            Reading::Number(value, n) => write!(f, "{value} {n}"),
+            Reading::Day(day, n) => write!(f, "{day} {n}"),
+            Reading::Bytes(n) => write!(f, "{n}"),
         }
     }
 }
 
-pub(crate) fn of_i64(r: Result<(i64, usize), ParseErrorKind>) -> Answer {
-    match r {
-        Ok((value, n)) => Answer::Value(value, n),
-        Err(kind) => Answer::Refused(kind),
+// Why nothing is read.
+#[derive(Clone, Copy)]
+pub(crate) enum Refusal {
+    // the leaf's own answer
+    Kind(ParseErrorKind),
+    // this byte begins no character
+    NotText(usize),
+    // the line is no case, or names no leaf
+    Unknown,
+}
+
+impl From<ParseErrorKind> for Refusal {
+    fn from(kind: ParseErrorKind) -> Refusal {
+        Refusal::Kind(kind)
     }
 }
 
-pub(crate) fn of_i32(r: Result<(i32, usize), ParseErrorKind>) -> Answer {
-    match r {
-        Ok((value, n)) => Answer::Value(i64::from(value), n),
-        Err(kind) => Answer::Refused(kind),
-    }
-}
-
-pub(crate) fn of_u32(r: Result<(u32, usize), ParseErrorKind>) -> Answer {
-    match r {
-        Ok((value, n)) => Answer::Value(i64::from(value), n),
-        Err(kind) => Answer::Refused(kind),
-    }
-}
-
-pub(crate) fn of_u8(r: Result<(u8, usize), ParseErrorKind>) -> Answer {
-    match r {
-        Ok((value, n)) => Answer::Value(i64::from(value), n),
-        Err(kind) => Answer::Refused(kind),
-    }
-}
-
-pub(crate) fn of_day(r: Result<(Weekday, usize), ParseErrorKind>) -> Answer {
-    match r {
-        Ok((day, n)) => Answer::Day(day, n),
-        Err(kind) => Answer::Refused(kind),
-    }
-}
-
-pub(crate) fn of_mark(r: Result<usize, ParseErrorKind>) -> Answer {
-    match r {
-        Ok(n) => Answer::Taken(n),
-        Err(kind) => Answer::Refused(kind),
+impl fmt::Display for Refusal {
+    fn fmt<W: fmt::Write>(&self, f: &mut fmt::Formatter<W>) -> fmt::Result {
+        match *self {
+            Refusal::Kind(kind) => write!(f, "err {kind:?}"),
+            Refusal::NotText(n) => write!(f, "nottext {n}"),
+            Refusal::Unknown => write!(f, "unknown"),
+        }
     }
 }

@@ -1,5 +1,6 @@
 // A case: which leaf, on which text.
-use super::answer::{Answer, of_day, of_i32, of_i64, of_mark, of_u8, of_u32};
+use super::answer::{Reading, Refusal};
+use scan::kind::ParseErrorKind;
 use scan::number::Precision;
 use std::alloc::{AllocError, Global};
 use zones::offset::timezone_offset;
@@ -8,14 +9,12 @@ use zones::separator::{Colon, ColonOrSpace, NoSeparator};
 #[derive(Clone, Copy)]
 struct Case<'t> {
     leaf: &'t str,
-    // the numbers that the leaf may take
-    a: u64,
-    b: u64,
-    c: u64,
-    d: u64,
+    // what the leaf may take beside its text
+    numbers: [usize; 4],
     hex: &'t str,
 }
 
+// `char::to_digit` takes `A` to `F` too.
 fn digit(b: u8) -> Option<u8> {
     match b {
         b'0'..=b'9' => Some(b - b'0'),
@@ -24,25 +23,30 @@ fn digit(b: u8) -> Option<u8> {
     }
 }
 
+// The byte that two digits stand for.
+fn byte(pair: &[u8]) -> Option<u8> {
+    let [high, low] = pair else {
+        return None;
+    };
+    Some(digit(*high)? << 4 | digit(*low)?)
+}
+
 // The bytes that hex stands for, where it is hex.
-fn unhex(heap: Global, hex: &[u8]) -> Result<Option<Vec<u8>>, AllocError> {
+fn unhex(heap: Global, hex: &str) -> Result<Option<Vec<u8>>, AllocError> {
     let mut bytes = Vec::new(heap);
-    if let b"-" = hex {
+    if hex == "-" {
         return Ok(Some(bytes));
     }
-    for pair in hex.chunks(2) {
-        let [a, b] = pair else {
+    for pair in hex.as_bytes().chunks(2) {
+        let Some(byte) = byte(pair) else {
             return Ok(None);
         };
-        let (Some(high), Some(low)) = (digit(*a), digit(*b)) else {
-            return Ok(None);
-        };
-        bytes.push((high & 15) * 16 + (low & 15))?;
+        bytes.push(byte)?;
     }
     Ok(Some(bytes))
 }
 
-fn precision(digits: u64) -> Precision {
+fn precision(digits: usize) -> Precision {
     match digits {
         3 => Precision::Milli,
         6 => Precision::Micro,
@@ -50,66 +54,63 @@ fn precision(digits: u64) -> Precision {
     }
 }
 
-fn offset(case: Case<'_>, s: &[u8]) -> Answer {
-    let (zulu, missing, minus) = (case.b == 1, case.c == 1, case.d == 1);
-    match case.a {
-        0 => of_i32(timezone_offset(s, &mut NoSeparator, zulu, missing, minus)),
-        1 => of_i32(timezone_offset(s, &mut Colon, zulu, missing, minus)),
-        _ => of_i32(timezone_offset(s, &mut ColonOrSpace, zulu, missing, minus)),
+// The first number chooses the separator; of the others 1 is for yes.
+fn offset(numbers: [usize; 4], s: &[u8]) -> Result<(i32, usize), ParseErrorKind> {
+    let [separator, zulu, missing_minutes, minus_sign] = numbers;
+    let (zulu, missing_minutes, minus_sign) = (zulu == 1, missing_minutes == 1, minus_sign == 1);
+    match separator {
+        0 => timezone_offset(s, &mut NoSeparator, zulu, missing_minutes, minus_sign),
+        1 => timezone_offset(s, &mut Colon, zulu, missing_minutes, minus_sign),
+        _ => timezone_offset(s, &mut ColonOrSpace, zulu, missing_minutes, minus_sign),
     }
 }
 
-fn one(case: Case<'_>, s: &[u8]) -> Answer {
-    match case.leaf {
-        "text" => Answer::Taken(s.len()),
-        "blanks" => Answer::Taken(text::blanks(s)),
-        "non_blanks" => Answer::Taken(text::non_blanks(s)),
-        "char" => of_mark(scan::single::char(s, (case.a & 0xff) as u8)),
-        "space" => of_mark(scan::single::space(s)),
-        "colon_or_space" => Answer::Taken(zones::separator::colon_or_space(s)),
-        "number" => of_i64(scan::number::number(s, case.a as usize, case.b as usize)),
-        "nanosecond" => of_u32(scan::number::nanosecond(s)),
-        "nanosecond_fixed" => of_i64(scan::number::nanosecond_fixed(s, precision(case.a))),
-        "short_month0" => of_u8(names::names::short_month0(s)),
-        "short_or_long_month0" => of_u8(names::names::short_or_long_month0(s)),
-        "short_weekday" => of_day(names::names::short_weekday(s)),
-        "short_or_long_weekday" => of_day(names::names::short_or_long_weekday(s)),
-        "timezone_offset" => offset(case, s),
-        "timezone_offset_2822" => of_i32(zones::mail::timezone_offset_2822(s)),
-        "comment_2822" => of_mark(comments::comment_2822(s)),
-        _ => Answer::Unknown,
-    }
-}
-
-fn parse(line: &str) -> Option<Case<'_>> {
-    let (leaf, rest) = line.split_once(' ')?;
-    let (a, rest) = rest.split_once(' ')?;
-    let (b, rest) = rest.split_once(' ')?;
-    let (c, rest) = rest.split_once(' ')?;
-    let (d, hex) = rest.split_once(' ')?;
-    let a = a.parse::<u64>().ok()?;
-    let b = b.parse::<u64>().ok()?;
-    let c = c.parse::<u64>().ok()?;
-    let d = d.parse::<u64>().ok()?;
-    Some(Case {
-        leaf,
-        a,
-        b,
-        c,
-        d,
-        hex,
+fn one(case: Case<'_>, s: &[u8]) -> Result<Reading, Refusal> {
+    text::check_text(s).map_err(Refusal::NotText)?;
+    let [first, second, ..] = case.numbers;
+    Ok(match case.leaf {
+        "text" => Reading::Bytes(s.len()),
+        "blanks" => Reading::Bytes(text::blanks(s)),
+        "non_blanks" => Reading::Bytes(text::non_blanks(s)),
+        "char" => Reading::Bytes(scan::single::char(s, (first & 0xff) as u8)?),
+        "space" => Reading::Bytes(scan::single::space(s)?),
+        "colon_or_space" => Reading::Bytes(zones::separator::colon_or_space(s)),
+        "number" => Reading::number(scan::number::number(s, first, second)?),
+        "nanosecond" => Reading::number(scan::number::nanosecond(s)?),
+        "nanosecond_fixed" => {
+            Reading::number(scan::number::nanosecond_fixed(s, precision(first))?)
+        }
+        "short_month0" => Reading::number(names::names::short_month0(s)?),
+        "short_or_long_month0" => Reading::number(names::names::short_or_long_month0(s)?),
+        "short_weekday" => Reading::day(names::names::short_weekday(s)?),
+        "short_or_long_weekday" => Reading::day(names::names::short_or_long_weekday(s)?),
+        "timezone_offset" => Reading::number(offset(case.numbers, s)?),
+        "timezone_offset_2822" => Reading::number(zones::mail::timezone_offset_2822(s)?),
+        "comment_2822" => Reading::Bytes(comments::comment_2822(s)?),
+        _ => return Err(Refusal::Unknown),
     })
 }
 
-pub(crate) fn run(heap: Global, line: &str) -> Result<Answer, AllocError> {
-    let Some(case) = parse(line) else {
-        return Ok(Answer::Unknown);
-    };
-    let Some(bytes) = unhex(heap, case.hex.as_bytes())? else {
-        return Ok(Answer::Unknown);
-    };
-    match text::check_text(&bytes) {
-        Ok(()) => Ok(one(case, &bytes)),
-        Err(n) => Ok(Answer::NotText(n)),
+fn parse(line: &str) -> Option<Case<'_>> {
+    let mut words = line.splitn(6, ' ');
+    let leaf = words.next()?;
+    let mut numbers = [0; 4];
+    for number in numbers.iter_mut() {
+        *number = words.next()?.parse::<usize>().ok()?;
     }
+    let hex = words.next()?;
+    Some(Case { leaf, numbers, hex })
+}
+
+// What the line's case answers; only memory can fail.
+pub(crate) fn run(heap: Global, line: &str) -> Result<Result<Reading, Refusal>, AllocError> {
+    let Some(case) = parse(line) else {
+        return Ok(Err(Refusal::Unknown));
+    };
+    let bytes = unhex(heap, case.hex)?;
+    Ok(
+        bytes
+            .ok_or(Refusal::Unknown)
+            .and_then(|bytes| one(case, &bytes)),
+    )
 }

@@ -13,8 +13,10 @@ fn main(rt: HostRuntime) -> io::Result<()> {
     let mut out = BufWriter::new(heap, rt.stdout())?;
     for line in BufReader::new(heap, rt.stdin())?.lines(heap) {
         let line = line?;
-        let answer = leaves::run(heap, line.as_str())?;
-        writeln!(out, "{answer}")?;
+        match leaves::run(heap, line.as_str())? {
+            Ok(reading) => writeln!(out, "ok {reading}")?,
+            Err(refusal) => writeln!(out, "{refusal}")?,
+        }
     }
     out.flush()
 }

@@ -43,7 +43,7 @@ impl Case {
         let (setter, value) = call_of(text)?;
         let answer = set(&mut self.parsed, setter, value);
         let other = set(&mut self.docket, setter, value);
-        self.agree = self.agree && answer == other && equal(&self.parsed, &self.docket);
+        self.agree &= answer == other && equal(&self.parsed, &self.docket);
         Some(answer)
     }
 
@@ -54,14 +54,11 @@ impl Case {
         }
         Ok(())
     }
-}
 
-impl fmt::Display for Case {
-    fn fmt<W: fmt::Write>(&self, f: &mut fmt::Formatter<W>) -> fmt::Result {
-        for (i, answer) in self.answers.iter().enumerate() {
-            if i > 0 {
-                f.write_str(" ; ")?;
-            }
+    fn write_answers<W: fmt::Write>(&self, f: &mut fmt::Formatter<W>) -> fmt::Result {
+        let mut separator = "";
+        for answer in self.answers.iter() {
+            f.write_str(separator)?;
             match answer {
                 Some(Ok(())) => f.write_str("ok")?,
                 Some(Err(fault)) => {
@@ -70,18 +67,31 @@ impl fmt::Display for Case {
                 }
                 None => f.write_str("no call")?,
             }
+            separator = " ; ";
         }
-        f.write_str(" |")?;
+        Ok(())
+    }
+
+    // What the record holds, by the numbers of the fields.
+    fn write_held<W: fmt::Write>(&self, f: &mut fmt::Formatter<W>) -> fmt::Result {
         for field in Field::ALL {
             let number = field.number();
             if let Some(value) = self.parsed.ask(number) {
                 write!(f, " {number}={value}")?;
             }
         }
-        if self.agree {
-            Ok(())
-        } else {
-            f.write_str(" THE COLLECTORS DIFFER")
+        Ok(())
+    }
+}
+
+impl fmt::Display for Case {
+    fn fmt<W: fmt::Write>(&self, f: &mut fmt::Formatter<W>) -> fmt::Result {
+        self.write_answers(f)?;
+        f.write_str(" |")?;
+        self.write_held(f)?;
+        if !self.agree {
+            f.write_str(" THE COLLECTORS DIFFER")?;
         }
+        Ok(())
     }
 }

@@ -6,7 +6,7 @@ use std::test::*;
 
 #[test]
 fn in_order(rt: HostRuntime) -> Result<(), Fail> {
-    let mut pair = Pair::new(rt.alloc())?;
+    let mut pair = Pair::new(&rt)?;
     assert_eq!(rt; pair.set(&rt, Setter::Second, 60)?, None);
     assert_eq!(rt; pair.set(&rt, Setter::Year, 2026)?, None);
     assert_eq!(rt; pair.set(&rt, Setter::Second, 60)?, None);
@@ -34,11 +34,10 @@ fn in_order(rt: HostRuntime) -> Result<(), Fail> {
 // One of each field finds room.
 #[test]
 fn full(rt: HostRuntime) -> Result<(), Fail> {
-    let mut pair = Pair::new(rt.alloc())?;
+    let mut pair = Pair::new(&rt)?;
     for setter in Setter::ALL {
-        match setter {
-            Setter::Ampm | Setter::Hour12 => {}
-            _ => assert_eq!(rt; pair.set(&rt, setter, 1)?, None),
+        if !matches!(setter, Setter::Ampm | Setter::Hour12) {
+            assert_eq!(rt; pair.set(&rt, setter, 1)?, None);
         }
     }
     assert_eq!(rt; pair.docket.len(), 21);

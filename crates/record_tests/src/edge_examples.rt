@@ -1,7 +1,6 @@
 // Both ends of every range.
-use super::pair::Pair;
+use super::pair::{Numbers, Pair};
 use setters::setter::Setter;
-use std::alloc::Global;
 use std::process::Abort;
 use std::test::*;
 
@@ -34,30 +33,25 @@ const EDGES: [(Setter, i64, i64, u8); 21] = [
     (Setter::Offset, I32_MIN, I32_MAX, 21),
 ];
 
-fn taken(rt: &impl Abort, heap: Global, setter: Setter, value: i64) -> Result<(), Fail> {
-    let mut pair = Pair::new(heap)?;
-    assert_eq!(rt; pair.set(rt, setter, value)?, None);
-    Ok(())
-}
-
-fn beyond(
-    rt: &impl Abort,
-    heap: Global,
+// What a fresh pair answers to each value; only a value that is taken is held.
+fn answers(
+    rt: &(impl Abort + AllocGlobal),
     setter: Setter,
-    value: i64,
-    field: u8,
+    values: &[i64],
+    expected: Option<Numbers>,
 ) -> Result<(), Fail> {
-    let mut pair = Pair::new(heap)?;
-    assert_eq!(rt; pair.set(rt, setter, value)?, Some((1, 4, 0, 0, field)));
-    assert!(rt; pair.docket.is_empty());
+    for value in values {
+        let mut pair = Pair::new(rt)?;
+        assert_eq!(rt; pair.set(rt, setter, *value)?, expected);
+        assert_eq!(rt; pair.docket.is_empty(), expected.is_some());
+    }
     Ok(())
 }
 
 #[test]
 fn inside(rt: HostRuntime) -> Result<(), Fail> {
     for (setter, low, high, _) in EDGES {
-        taken(&rt, rt.alloc(), setter, low)?;
-        taken(&rt, rt.alloc(), setter, high)?;
+        answers(&rt, setter, &[low, high], None)?;
     }
     Ok(())
 }
@@ -65,25 +59,27 @@ fn inside(rt: HostRuntime) -> Result<(), Fail> {
 #[test]
 fn outside(rt: HostRuntime) -> Result<(), Fail> {
     for (setter, low, high, field) in EDGES {
-        beyond(&rt, rt.alloc(), setter, low.saturating_sub(1), field)?;
-        beyond(&rt, rt.alloc(), setter, high.saturating_add(1), field)?;
-        beyond(&rt, rt.alloc(), setter, i64::MIN, field)?;
-        beyond(&rt, rt.alloc(), setter, i64::MAX, field)?;
+        let values = [
+            low.saturating_sub(1),
+            high.saturating_add(1),
+            i64::MIN,
+            i64::MAX,
+        ];
+        answers(&rt, setter, &values, Some((1, 4, 0, 0, field)))?;
     }
     Ok(())
 }
 
 #[test]
 fn timestamps(rt: HostRuntime) -> Result<(), Fail> {
-    taken(&rt, rt.alloc(), Setter::Timestamp, i64::MIN)?;
-    taken(&rt, rt.alloc(), Setter::Timestamp, i64::MAX)
+    answers(&rt, Setter::Timestamp, &[i64::MIN, i64::MAX], None)
 }
 
 // The other end is refused where a field holds one of them, and the first stays.
 #[test]
 fn conflicts(rt: HostRuntime) -> Result<(), Fail> {
     for (setter, low, high, _) in EDGES {
-        let mut pair = Pair::new(rt.alloc())?;
+        let mut pair = Pair::new(&rt)?;
         assert_eq!(rt; pair.set(&rt, setter, high)?, None);
         let Some((kind, layer, item, place, _)) = pair.set(&rt, setter, low)? else {
             return Err(Fail::new("taken twice"));

@@ -6,9 +6,11 @@ use docket::Docket;
 use parsed::Parsed;
 use setters::choice::set;
 use setters::setter::Setter;
-use std::alloc::Global;
 use std::process::Abort;
 use std::test::*;
+
+// Kind, layer, item, place and field of a refusal.
+pub(crate) type Numbers = (u8, u8, usize, usize, u8);
 
 #[derive(Drop)]
 pub(crate) struct Pair {
@@ -17,10 +19,10 @@ pub(crate) struct Pair {
 }
 
 impl Pair {
-    pub(crate) fn new(heap: Global) -> Result<Pair, Fail> {
+    pub(crate) fn new(rt: &impl AllocGlobal) -> Result<Pair, Fail> {
         Ok(Pair {
             parsed: Parsed::new(),
-            docket: Docket::new(heap)?,
+            docket: Docket::new(rt.alloc())?,
         })
     }
 
@@ -30,15 +32,12 @@ impl Pair {
         rt: &impl Abort,
         setter: Setter,
         value: i64,
-    ) -> Result<Option<(u8, u8, usize, usize, u8)>, Fail> {
+    ) -> Result<Option<Numbers>, Fail> {
         let answer = set(&mut self.parsed, setter, value);
         let other = set(&mut self.docket, setter, value);
         assert_eq!(rt; answer, other);
         assert!(rt; equal(&self.parsed, &self.docket));
-        match answer {
-            Ok(()) => Ok(None),
-            Err(fault) => Ok(Some(fault.numbers())),
-        }
+        Ok(answer.err().map(Fault::numbers))
     }
 
     // What both hold.

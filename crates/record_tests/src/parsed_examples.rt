@@ -10,7 +10,7 @@ use std::test::*;
 
 #[test]
 fn month_thirteen(rt: HostRuntime) -> Result<(), Fail> {
-    let mut pair = Pair::new(rt.alloc())?;
+    let mut pair = Pair::new(&rt)?;
     assert_eq!(rt; pair.set(&rt, Setter::Month, 13)?, Some((1, 4, 0, 0, 8)));
     assert_eq!(rt; pair.ask(&rt, 8)?, None);
     Ok(())
@@ -18,7 +18,7 @@ fn month_thirteen(rt: HostRuntime) -> Result<(), Fail> {
 
 #[test]
 fn month_five_then_six(rt: HostRuntime) -> Result<(), Fail> {
-    let mut pair = Pair::new(rt.alloc())?;
+    let mut pair = Pair::new(&rt)?;
     assert_eq!(rt; pair.set(&rt, Setter::Month, 5)?, None);
     assert_eq!(rt; pair.set(&rt, Setter::Month, 6)?, Some((2, 4, 0, 0, 8)));
     assert_eq!(rt; pair.ask(&rt, 8)?, Some(5));
@@ -27,7 +27,7 @@ fn month_five_then_six(rt: HostRuntime) -> Result<(), Fail> {
 
 #[test]
 fn hour_thirteen_onto_five(rt: HostRuntime) -> Result<(), Fail> {
-    let mut pair = Pair::new(rt.alloc())?;
+    let mut pair = Pair::new(&rt)?;
     assert_eq!(rt; pair.set(&rt, Setter::Hour12, 5)?, None);
     assert_eq!(rt; pair.set(&rt, Setter::Hour, 13)?, Some((2, 4, 0, 0, 16)));
     assert_eq!(rt; pair.ask(&rt, 15)?, Some(1));
@@ -38,7 +38,7 @@ fn hour_thirteen_onto_five(rt: HostRuntime) -> Result<(), Fail> {
 // A number of no field.
 #[test]
 fn no_field(rt: HostRuntime) -> Result<(), Fail> {
-    let mut pair = Pair::new(rt.alloc())?;
+    let mut pair = Pair::new(&rt)?;
     for number in [0, 22, 255] {
         let Err(cause) = pair.parsed.offer(number, 1) else {
             return Err(Fail::new("taken"));
