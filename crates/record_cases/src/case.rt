@@ -24,7 +24,7 @@ fn call_of(text: &str) -> Option<(Setter, i64)> {
     if words.next()? != "S" {
         return None;
     }
-    let setter = Setter::named(words.next()?)?;
+    let setter = words.next()?.parse::<Setter>().ok()?;
     let value = words.next()?.parse::<i64>().ok()?;
     Some((setter, value))
 }
