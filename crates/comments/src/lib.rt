@@ -25,6 +25,7 @@ fn closes(s: &[u8]) -> Result<usize, ParseErrorKind>
     use CommentState::*;
 
     let mut state = Start;
+    // by rule the state is matched with the byte in the loop, and by no fold; the index is the answer
     for (i, b) in s.iter().enumerate() {
         state = match (state, *b) {
             (Start, b'(') => Next(1),

@@ -46,6 +46,7 @@ fn unhex(heap: Global, hex: &str) -> Result<Option<Vec<u8>>, AllocError> {
     Ok(Some(bytes))
 }
 
+// A case names a precision by its digits.
 fn precision(digits: usize) -> Precision {
     match digits {
         3 => Precision::Milli,

@@ -49,6 +49,8 @@ impl Weekday {
         }
     }
 
+    // chrono's four numberings of days, by its names; what they have in common is `days_since`.
+
     // Monday is 1, as in ISO 8601.
     pub fn number_from_monday(&self) -> u32
         ensures { result ≡ day_number self.now + 1 }

@@ -8,6 +8,7 @@ use case::Case;
 use std::io;
 use std::io::{BufRead, BufReader, BufWriter, Write};
 
+// The other program of cases has a loop of this shape: shared, it would take a crate for six lines.
 fn main(rt: HostRuntime) -> io::Result<()> {
     let heap = rt.alloc();
     let mut out = BufWriter::new(heap, rt.stdout())?;

@@ -1,4 +1,4 @@
-// The setters of a record, over any collector. Each is called by chrono's name; what they have in common is `give`.
+// The setters of a record, over any collector. Each is called by chrono's name, and promises the chain of its own offers; what they have in common is `give`.
 ghost use Rattle.std.specs.Prelude.{◌≡◌, ℤ, pos, if◌then◌else◌, Err};
 ghost use Rattle.names.specs.Days.{day_number};
 ghost use Rattle.collect.specs.Chain.{Takes};

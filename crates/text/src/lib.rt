@@ -60,6 +60,7 @@ pub fn run<K: CharClass>(s: &[u8]) -> usize
     ensures cut { Cut s.now result }
 {
     let mut end = 0;
+    // the library's iterators of characters take a text, and would check all that is left of it at each run
     while let Some(c) = first_char(&s[end..]) {
         if !K::contains(c) {
             break;

@@ -135,7 +135,7 @@ fn is_zulu(s: &[u8], allow_zulu: bool) -> bool
     allow_zulu && matches!(s, [b'Z' | b'z', ..])
 }
 
-// An offset of hours and minutes, in seconds; Z, missing minutes and the sign U+2212 only where they are allowed.
+// An offset of hours and minutes, in seconds; Z, missing minutes and the sign U+2212 only where they are allowed: the flags are chrono's parameters.
 #[tactic(auto, using(crate::proofs::Places::zulu_cut), unfolding(crate::specs::Offsets::offset_at, crate::specs::Offsets::numeric_at))]
 pub fn timezone_offset<S: Separator>(
     s: &[u8],
