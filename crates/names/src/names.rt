@@ -47,9 +47,8 @@ fn begins(s: &[u8], word: &[u8]) -> bool
 
 // The place of the name whose first three letters stand in front.
 fn short_name(names: &[&[u8]], s: &[u8]) -> Result<usize, ParseErrorKind>
-    requires { AreNames (texts names.now) }
     ensures value { result ≡ short_at (texts names.now) s.now }
-    ensures cut { IfOk result (λ i. Cut s.now 3) }
+    ensures cut { AreNames (texts names.now) → IfOk result (λ i. Cut s.now 3) }
     ensures within { IfOk result (λ i. i < length names.now) }
 {
     if s.len() < SHORT {
@@ -63,9 +62,8 @@ fn short_name(names: &[&[u8]], s: &[u8]) -> Result<usize, ParseErrorKind>
 
 // That place, and how many bytes the name takes: all of it, if all of it stands in front.
 fn short_or_long_name(names: &[&[u8]], s: &[u8]) -> Result<(usize, usize), ParseErrorKind>
-    requires { AreNames (texts names.now) }
     ensures value { result ≡ short_or_long_at (texts names.now) s.now }
-    ensures cut { Cuts s.now result }
+    ensures cut { AreNames (texts names.now) → Cuts s.now result }
     ensures within { IfOk result (λ p. p.0 < length names.now) }
 {
     let i = short_name(names, s)?;

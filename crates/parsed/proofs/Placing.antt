@@ -43,6 +43,12 @@ module _ (fs : List (Option ℤ)) (k : ℕ) (v : ℤ) (a : Verdict) (new : Optio
         after = λ g. changed g ∙ (ap (λ x. cond (g == k) x (slice_index_or fs g None)) s.after ∙ sym (kept_at (λ j. get_or fs j None) k v g));
       }
 
+-- the same, for a value that went through its bits, and a field known by its number
+pub placed_bits : (fs : List (Option ℤ)) (k n : ℕ) (v w : ℤ) (a : Verdict) (new : Option ℤ) → k < length fs → k ≡ n → w ≡ v → Slotted (slice_index_or fs k None) k w a new
+    → Offered (λ j. get_or fs j None) n v a (λ j. get_or (slice_set fs k new) j None)
+placed_bits fs k n v w a new l p q s =
+    subst (λ m. Offered (λ j. get_or fs j None) m v a (λ j. get_or (slice_set fs k new) j None)) p (placed fs k v a new l (subst (λ x. Slotted (slice_index_or fs k None) k x a new) q s))
+
 fit_set : (n : ℕ) (fs : List (Option ℤ)) (k : ℕ) (new : Option ℤ) → all_fit n fs ≡ true → held (n + k) new ≡ true → all_fit n (slice_set fs k new) ≡ true
 unfolding all_fit
 fit_set n [] k new h p = h
@@ -89,5 +95,4 @@ module _ (p : Parsed) {x y : Field} (e : y ≡ x) where
   pub takes : {n : ℕ} {v : ℤ} {a : Verdict} {new : Option ℤ} → field_number y ≡ n → FitsSigned w64 v → Slotted (get_or (fields_of p) (field_number x) None) (field_number y) (to_z w64 (of_z w64 v)) a new
       → Offered (parsed_table p) n v a (λ j. get_or (slice_set (fields_of p) (field_number x) new) j None)
   takes {n} {v} {a} {new} q r s =
-      subst (λ m. Offered (parsed_table p) m v a (λ j. get_or (slice_set (fields_of p) (field_number x) new) j None)) (sym (ap field_number e) ∙ q)
-      (placed (fields_of p) (field_number x) v a new (below x) (subst (λ w. Slotted (get_or (fields_of p) (field_number x) None) (field_number x) w a new) (to_z-of_z w64 v r) (slot_of s)))
+      placed_bits (fields_of p) (field_number x) n v (to_z w64 (of_z w64 v)) a new (below x) (sym (ap field_number e) ∙ q) (to_z-of_z w64 v r) (slot_of s)

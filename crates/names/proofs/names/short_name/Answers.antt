@@ -20,4 +20,4 @@ returns-clause-value c =
     placed c.args.names.now c.args.s.now c.position.result c.ok_or.result c.if-s-lt-SHORT.false c.ok_or.ensures.value p
 
 pub returns-clause-cut : goal.returns-clause-cut
-returns-clause-cut c = made_by (λ _. Cut c.args.s.now 3) _ _ (returns-clause-value c) (placed_cut (texts c.args.names.now) c.requires c.args.s.now)
+returns-clause-cut c = λ a. made_by (λ _. Cut c.args.s.now 3) _ _ (returns-clause-value c) (placed_cut (texts c.args.names.now) a c.args.s.now)

@@ -22,7 +22,7 @@ returns-then-begins c =
     let t = all_taken c.args.names.now i _ c.args.s.now e.within c.if-begins.ensures in
     record {
       value = with_taken ns c.args.s.now i _ e.value t;
-      cut = subst (λ k. Cut c.args.s.now k) (sym t) (taken_cut ns c.requires i (rw (length-map c.args.names.now (λ x. x.now)) e.within) c.args.s.now e.cut);
+      cut = λ a. subst (λ k. Cut c.args.s.now k) (sym t) (taken_cut ns a i (rw (length-map c.args.names.now (λ x. x.now)) e.within) c.args.s.now (e.cut a));
       within = e.within;
     }
 
