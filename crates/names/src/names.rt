@@ -61,6 +61,7 @@ fn short_name(names: &[&[u8]], s: &[u8]) -> Result<usize, ParseErrorKind>
 }
 
 // That place, and how many bytes the name takes: all of it, if all of it stands in front.
+#[tactic(auto, unfolding(crate::specs::Names::short_or_long_at))]
 fn short_or_long_name(names: &[&[u8]], s: &[u8]) -> Result<(usize, usize), ParseErrorKind>
     ensures value { result ≡ short_or_long_at (texts names.now) s.now }
     ensures cut { AreNames (texts names.now) → Cuts s.now result }
@@ -83,6 +84,7 @@ pub fn short_month0(s: &[u8]) -> Result<(u8, usize), ParseErrorKind>
 }
 
 // A day of the week by its first three letters.
+#[tactic(auto, unfolding(crate::specs::Names::short_weekday_at))]
 pub fn short_weekday(s: &[u8]) -> Result<(Weekday, usize), ParseErrorKind>
     ensures value { result ≡ short_weekday_at s.now }
     ensures cut { Cuts s.now result }
@@ -92,6 +94,7 @@ pub fn short_weekday(s: &[u8]) -> Result<(Weekday, usize), ParseErrorKind>
 }
 
 // A month by its name, all of it or the first three letters, January 0.
+#[tactic(auto, unfolding(crate::specs::Names::short_or_long_month0_at, crate::specs::Names::short_or_long_at))]
 pub fn short_or_long_month0(s: &[u8]) -> Result<(u8, usize), ParseErrorKind>
     ensures value { result ≡ short_or_long_month0_at s.now }
     ensures cut { Cuts s.now result }
@@ -102,6 +105,7 @@ pub fn short_or_long_month0(s: &[u8]) -> Result<(u8, usize), ParseErrorKind>
 }
 
 // A day of the week by its name, all of it or the first three letters.
+#[tactic(auto, unfolding(crate::specs::Names::short_or_long_weekday_at))]
 pub fn short_or_long_weekday(s: &[u8]) -> Result<(Weekday, usize), ParseErrorKind>
     ensures value { result ≡ short_or_long_weekday_at s.now }
     ensures cut { Cuts s.now result }

@@ -3,7 +3,7 @@ use Rattle.std.proofs.Common.{◌≡◌, ℕ, zero, suc, ◌+◌, ◌-◌, ◌*�
 use Rattle.std.proofs.lemmas.Bool.{and_parts, cases_lt, cond_both, eqb-true}
 use Rattle.std.specs.Char.{is_ascii_digit}
 use Rattle.scan.specs.declared.kind.ParseErrorKind.{ParseErrorKind}
-use Rattle.scan.specs.Numbers.{numeral_at, number_at, as_integer, Written, digits_at, fraction_at, nanosecond_at, nanosecond_fixed_at, mail_year, year_2822_at, unlimited}
+use Rattle.scan.specs.Numbers.{numeral_at, number_at, Written, digits_at, fraction_at}
 use Rattle.text.specs.Cuts.{Cut}
 use Rattle.text.proofs.Cutting.{cut_none, cut_cons, cut_more}
 use Rattle.scan.proofs.Digits.{as_ok, as_err, digit_is}
@@ -62,32 +62,5 @@ digits_cut (b ∷ bs) =
     cond_both (is_ascii_digit b) (1 + digits_at bs) 0 (λ k. Cut (b ∷ bs) k)
     (λ d. let g = digit_is b d in cut_cons b bs (digits_at bs) (omega arith) (digits_cut bs)) (λ _. cut_none (b ∷ bs))
 
-pub nanosecond_ok : (s rest : List ℕ) (v n k : ℕ) → Ok (v, n) ≡ fraction_at 1 9 s → Cut s n → rest ≡ drop n s → k ≡ digits_at rest
-    → (Ok (v, n + k) ≡ nanosecond_at s) × Cut s (n + k)
-unfolding nanosecond_at
-nanosecond_ok s rest v n k e c r d =
-    let q : k ≡ digits_at (drop n s) = d ∙ ap digits_at r in (
-      ap (λ x. Ok (v, n + x)) q ∙ then_ok (fraction_at 1 9 s) (λ p. Ok (p.0, p.1 + digits_at (drop p.1 s))) (v, n) e,
-      subst (λ x. Cut s (n + x)) (sym q) (cut_more s n (digits_at (drop n s)) c (digits_cut (drop n s))),
-    )
-
-pub nanosecond_err : (s : List ℕ) (d : ParseErrorKind) → Err d ≡ fraction_at 1 9 s → Err d ≡ nanosecond_at s
-unfolding nanosecond_at
-nanosecond_err s d e = then_err (fraction_at 1 9 s) _ d e
-
-pub fixed_ok : (k m : ℕ) (s : List ℕ) (z : ℤ) (v n : ℕ) → Ok (v, n) ≡ fraction_at m m s → m ≡ k → z ≡ pos v → Ok (z, n) ≡ nanosecond_fixed_at k s
-unfolding nanosecond_fixed_at
-fixed_ok k m s z v n e q p = ap (λ y. Ok (y, n)) p ∙ ap as_integer (e ∙ ap (λ x. fraction_at x x s) q)
-
-pub fixed_err : (k m : ℕ) (s : List ℕ) (d : ParseErrorKind) → Err d ≡ fraction_at m m s → m ≡ k → Err d ≡ nanosecond_fixed_at k s
-unfolding nanosecond_fixed_at
-fixed_err k m s d e q = ap as_integer (e ∙ ap (λ x. fraction_at x x s) q)
-
--- a year of mail
-pub year_ok : (s : List ℕ) (y z : ℤ) (n : ℕ) → Ok (y, n) ≡ number_at 2 unlimited s → z ≡ mail_year n y → Ok (z, n) ≡ year_2822_at s
-unfolding year_2822_at
-year_ok s y z n e q = ap (λ x. Ok (x, n)) q ∙ then_ok (number_at 2 unlimited s) (λ p. Ok (mail_year p.1 p.0, p.1)) (y, n) e
-
-pub year_err : (s : List ℕ) (d : ParseErrorKind) → Err d ≡ number_at 2 unlimited s → Err d ≡ year_2822_at s
-unfolding year_2822_at
-year_err s d e = then_err (number_at 2 unlimited s) _ d e
+pub nanosecond_cut : (s : List ℕ) (n k : ℕ) → Cut s n → k ≡ digits_at (drop n s) → Cut s (n + k)
+nanosecond_cut s n k c q = subst (λ x. Cut s (n + x)) (sym q) (cut_more s n (digits_at (drop n s)) c (digits_cut (drop n s)))

@@ -4,14 +4,7 @@ use Rattle.std.proofs.lemmas.Bool.{cond_both, eqb-true}
 use Rattle.scan.specs.declared.kind.ParseErrorKind.TheVariants.{Invalid}
 use Rattle.scan.specs.Singles.{char_at}
 use Rattle.scan.specs.Steps.{CutsMark}
-use Rattle.text.specs.Chars.{blank, blanks_at}
-use Rattle.text.specs.Cuts.{Cut}
 use Rattle.text.proofs.Cutting.{cut_after}
-use Rattle.text.proofs.Runs.{run_cut}
-
-pub blanks_cut : (s : List ℕ) → Cut s (blanks_at s)
-unfolding blanks_at
-blanks_cut s = run_cut blank s
 
 pub char_cut : (c : ℕ) (s : List ℕ) → c < 128 → CutsMark s (char_at c s)
 unfolding char_at

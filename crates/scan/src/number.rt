@@ -66,6 +66,7 @@ fn fraction(s: &[u8], min: usize, max: usize) -> Result<(u32, usize), ParseError
 }
 
 // A fraction of a second of at least one digit, as nanoseconds. Digits behind the ninth are taken and dropped.
+#[tactic(auto, unfolding(crate::specs::Numbers::nanosecond_at))]
 pub fn nanosecond(s: &[u8]) -> Result<(u32, usize), ParseErrorKind>
     ensures value { result ≡ nanosecond_at s.now }
     ensures cut { Cuts s.now result }
@@ -93,6 +94,7 @@ impl Precision {
 }
 
 // A fraction of a second of exactly so many digits, as nanoseconds.
+#[tactic(auto, unfolding(crate::specs::Numbers::nanosecond_fixed_at))]
 pub fn nanosecond_fixed(s: &[u8], precision: Precision) -> Result<(i64, usize), ParseErrorKind>
     ensures value { result ≡ nanosecond_fixed_at (digits_of precision) s.now }
     ensures cut { Cuts s.now result }
@@ -115,6 +117,7 @@ pub fn mail_year(digits: usize, year: i64) -> i64
 }
 
 // The year of a mail's date: two digits or more.
+#[tactic(auto, unfolding(crate::specs::Numbers::year_2822_at))]
 pub fn year_2822(s: &[u8]) -> Result<(i64, usize), ParseErrorKind>
     ensures value { result ≡ year_2822_at s.now }
     ensures cut { Cuts s.now result }

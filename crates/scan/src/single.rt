@@ -6,6 +6,7 @@ ghost use Rattle.scan.specs.Steps.{CutsMark};
 use super::kind::ParseErrorKind;
 
 // Consumes exactly one given character, which is ASCII.
+#[tactic(auto, unfolding(crate::specs::Singles::char_at))]
 pub fn char(s: &[u8], c1: u8) -> Result<usize, ParseErrorKind>
     ensures value { result ≡ char_at c1 s.now }
     ensures cut { c1 < 128 → CutsMark s.now result }
@@ -18,6 +19,7 @@ pub fn char(s: &[u8], c1: u8) -> Result<usize, ParseErrorKind>
 }
 
 // Consumes one or more blanks.
+#[tactic(auto, unfolding(crate::specs::Singles::space_at))]
 pub fn space(s: &[u8]) -> Result<usize, ParseErrorKind>
     ensures value { result ≡ space_at s.now }
     ensures cut { CutsMark s.now result }

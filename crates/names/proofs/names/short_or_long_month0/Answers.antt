@@ -8,7 +8,3 @@ unfolding short_or_long_month0_at short_or_long_at
 returns-in_err-i-clause-value c =
     let p = err_from_is_err_and c.from_residual.result c.from_residual.ensures.1 in
     exits _ _ _ _ p.1 p.2 c.in_err-i.ensures.value
-
-pub returns-clause-value : goal.returns-clause-value
-unfolding short_or_long_month0_at short_or_long_at
-returns-clause-value c = c.in_ok-i.ensures.value

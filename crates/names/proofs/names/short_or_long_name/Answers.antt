@@ -1,18 +1,10 @@
 use Rattle.std.proofs.Common.{sym, subst}
 use Rattle.std.proofs.lemmas.List.{length-map}
-use Rattle.std.proofs.lemmas.Result.{err_from_is_err_and}
-use Rattle.scan.proofs.Leaves.{exits, then_err}
 use Rattle.text.specs.Cuts.{Cut}
-use Rattle.names.specs.Names.{texts, short_or_long_at}
+use Rattle.names.specs.Names.{texts}
 use Rattle.names.proofs.Taken.{taken_cut}
 use Rattle.names.proofs.Values.{all_taken, three_taken, with_taken}
 use Rattle.names.proofs.names.short_or_long_name.Goals as goal
-
-pub returns-in_err-i-clause-value : goal.returns-in_err-i-clause-value
-unfolding short_or_long_at
-returns-in_err-i-clause-value c =
-    let p = err_from_is_err_and c.from_residual.result c.from_residual.ensures.1 in
-    exits _ _ _ _ p.1 p.2 (then_err _ _ _ c.in_err-i.ensures.value)
 
 pub returns-then-begins : goal.returns-then-begins
 returns-then-begins c =
