@@ -1,28 +1,13 @@
-use Rattle.std.proofs.Common.{◌≡◌, true, false, sym, ◌∙◌, subst, arith, rules}
+use Rattle.std.proofs.Common.{◌≡◌, true, false, sym, ◌∙◌, subst}
 use Rattle.text.specs.Chars.{blank, blanks_at, white_space}
 use Rattle.text.specs.Cuts.{Cut}
-use Rattle.text.proofs.Runs.{going_start, going_more, going_stop, going_none, going_room}
+use Rattle.text.proofs.Runs.{going_more, going_stop, going_none}
 use Rattle.text.proofs.Tables.{passed, found, missed}
 use Rattle.text.proofs.blanks.Goals as goal
-
-pub chars-init : goal.chars-init
-chars-init c = going_start blank c.args.s.now
 
 pub loop-b-preserved : goal.loop-b-preserved
 loop-b-preserved c =
     (c.loop-b.invariant.0, passed c.in-Some.c white_space c.loop-b.b-index c.loop-b-test.true c.if-c-b.false ∙ c.loop-b.invariant.1)
-
-pub overflow_add-n : goal.overflow_add-n
-overflow_add-n c =
-    let r = going_room blank c.args.s.now c.chars.n c.chars.invariant c.in-Some.c c.in-Some.ensures.value in
-    search rules
-
-pub chars-smaller : goal.chars-smaller
-chars-smaller c =
-    let r = going_room blank c.args.s.now c.chars.n c.chars.invariant c.in-Some.c c.in-Some.ensures.value in
-    let w = c.len_utf8-n.ensures.value in
-    let i = c.loop-b.invariant.0 in
-    omega arith
 
 pub chars-preserved : goal.chars-preserved
 unfolding blank
