@@ -1,5 +1,18 @@
 // UTF-8 by RFC 3629: its examples, and what it forbids; blanks.
-use text::{blanks, check_text, first_char, non_blanks};
+ghost use Rattle.std.specs.Char.{is_ascii_digit};
+
+use text::{CharClass, blanks, check_text, first_char, non_blanks, run};
+
+// A class of a caller's own.
+struct Digit;
+
+impl CharClass for Digit {
+    ghost has = { is_ascii_digit };
+
+    fn contains(c: char) -> bool {
+        c.is_ascii_digit()
+    }
+}
 
 #[test]
 fn text_of_the_rfc(rt: HostRuntime) {
@@ -35,4 +48,15 @@ fn skipped(rt: HostRuntime) {
     assert_eq!(rt; blanks("\u{200b}".as_bytes()), 0);
     assert_eq!(rt; non_blanks("CET\u{2009}x".as_bytes()), 3);
     assert_eq!(rt; non_blanks("\u{e9}\u{200b}".as_bytes()), 5);
+}
+
+#[test]
+fn runs(rt: HostRuntime) {
+    assert_eq!(rt; run::<Digit>(b"0937 x"), 4);
+    assert_eq!(rt;
+        run::<Digit>("7\u{663}".as_bytes()),
+        1,
+        "a digit of ASCII alone"
+    );
+    assert_eq!(rt; run::<Digit>(b""), 0);
 }

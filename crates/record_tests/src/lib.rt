@@ -2,6 +2,8 @@
 #![tactic(auto)]
 
 #[cfg(test)]
+mod conversion_examples;
+#[cfg(test)]
 mod docket_examples;
 #[cfg(test)]
 mod edge_examples;
