@@ -1,11 +1,13 @@
 // Refusals.
 ghost use Rattle.std.specs.Prelude.{◌≡◌, Some, Err};
-ghost use Rattle.collect.specs.Faults.{layer_number, field_named, told, nowhere, of_field};
+ghost use Rattle.collect.specs.Faults.{layer_number, field_named, told, nowhere, of_field, no_field};
+ghost use Rattle.collect.specs.Fields.{field_number};
 ghost use Rattle.collect.specs.Readings.{fault};
 ghost use Rattle.collect.specs.Refusals.{cause_text, fault_text};
 
 use super::field::Field;
 use scan::kind::ParseErrorKind;
+use std::error::Error;
 use std::fmt;
 
 // Where a refusal comes from.
@@ -17,7 +19,7 @@ pub enum Layer {
     List,
     // what one item reads
     Scan,
-    // the field of this number: a number and no `Field`, since 0 stands for a number of no field
+    // the field of this number, or 0 for a number of no field; a caller may make and print refusals of any number
     Field(u8),
 }
 
@@ -61,13 +63,23 @@ pub struct Fault {
 }
 
 impl Cause {
-    // What the field of a number refuses: a number and no `Field`, since 0 stands for a number of no field.
-    pub fn of_field(kind: ParseErrorKind, field: u8) -> Cause
-        ensures { result ≡ of_field kind field }
+    // The refusal by a field.
+    pub fn of_field(kind: ParseErrorKind, field: Field) -> Cause
+        ensures { result ≡ of_field kind (field_number field) }
     {
         Cause {
             kind,
-            layer: Layer::Field(field),
+            layer: Layer::Field(field.number()),
+        }
+    }
+
+    // The refusal of an offer to a number of no field: it names 0.
+    pub fn no_field() -> Cause
+        ensures { result ≡ no_field }
+    {
+        Cause {
+            kind: ParseErrorKind::OutOfRange,
+            layer: Layer::Field(0),
         }
     }
 }
@@ -134,3 +146,7 @@ impl fmt::Display for Fault {
         write!(f, "{cause} [fault {kind} {layer} {item} {place} {field}]")
     }
 }
+
+impl Error for Cause {}
+
+impl Error for Fault {}

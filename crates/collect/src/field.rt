@@ -4,7 +4,6 @@ ghost use Rattle.collect.specs.Fields.{field_number, field_name, range, fits};
 ghost use Rattle.collect.specs.Faults.{no_field};
 
 use super::fault::Cause;
-use scan::kind::ParseErrorKind;
 use std::fmt;
 
 #[derive(Clone, Copy, PartialEq, Eq, Debug)]
@@ -176,7 +175,7 @@ impl TryFrom<u8> for Field {
             19 => Ok(Field::Nanosecond),
             20 => Ok(Field::Timestamp),
             21 => Ok(Field::Offset),
-            _ => Err(Cause::of_field(ParseErrorKind::OutOfRange, 0)),
+            _ => Err(Cause::no_field()),
         }
     }
 }

@@ -65,11 +65,11 @@ impl Collector for Docket {
     fn offer(&mut self, field: u8, value: i64) -> Result<(), Cause> {
         let known = Field::try_from(field)?;
         if !known.admits(value) {
-            return Err(Cause::of_field(ParseErrorKind::OutOfRange, field));
+            return Err(Cause::of_field(ParseErrorKind::OutOfRange, known));
         }
         match sought(self.entries.as_slice(), field) {
             Some(held) if held == value => Ok(()),
-            Some(_) => Err(Cause::of_field(ParseErrorKind::Impossible, field)),
+            Some(_) => Err(Cause::of_field(ParseErrorKind::Impossible, known)),
             None => {
                 // there is room: no two entries are of one field
                 self.entries.push_reserved(Entry { field, value });

@@ -2,7 +2,6 @@
 use names::names::*;
 use names::weekday::Weekday;
 use scan::kind::ParseErrorKind;
-use std::convert::TryFrom;
 
 #[test]
 fn days(rt: HostRuntime) {

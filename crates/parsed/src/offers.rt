@@ -12,7 +12,6 @@ use collect::collector::Collector;
 use collect::fault::Cause;
 use collect::field::Field;
 use collect::show::show;
-use std::convert::TryFrom;
 use std::fmt;
 
 impl Parsed {

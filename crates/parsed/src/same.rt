@@ -42,7 +42,7 @@ pub fn set_if_consistent<T: Same + Drop>(
 {
     match old {
         Some(held) if *held == new => Ok(()),
-        Some(_) => Err(Cause::of_field(ParseErrorKind::Impossible, field.number())),
+        Some(_) => Err(Cause::of_field(ParseErrorKind::Impossible, field)),
         None => {
             *old = Some(new);
             Ok(())

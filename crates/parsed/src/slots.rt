@@ -12,7 +12,6 @@ use collect::fault::Cause;
 use collect::field::Field;
 use names::weekday::Weekday;
 use scan::kind::ParseErrorKind;
-use std::convert::TryFrom;
 
 // A type that fields are kept in, whose values stand for numbers.
 pub(crate) trait Kept: Same + Copy {
@@ -103,7 +102,7 @@ pub(crate) fn put<T: Kept>(slot: &mut Option<T>, field: Field, value: i64) -> Re
     ensures { Slotted (option_map T.number slot.old) (field_number field) value (verdict result) (option_map T.number slot.new) }
 {
     if !field.admits(value) {
-        return Err(Cause::of_field(ParseErrorKind::OutOfRange, field.number()));
+        return Err(Cause::of_field(ParseErrorKind::OutOfRange, field));
     }
     set_if_consistent(slot, T::of(value), field)
 }

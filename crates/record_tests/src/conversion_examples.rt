@@ -3,16 +3,14 @@ use collect::fault::{Cause, Fault};
 use collect::field::Field;
 use scan::kind::ParseErrorKind;
 use setters::setter::{Setter, UnknownSetter};
-use std::convert::TryFrom;
 use std::test::*;
 
 #[test]
 fn fields_by_number(rt: HostRuntime) {
     assert_eq!(rt; Field::try_from(1), Ok(Field::Year));
     assert_eq!(rt; Field::try_from(21), Ok(Field::Offset));
-    let no_field = Cause::of_field(ParseErrorKind::OutOfRange, 0);
     for number in [0, 22, 255] {
-        assert_eq!(rt; Field::try_from(number), Err(no_field));
+        assert_eq!(rt; Field::try_from(number), Err(Cause::no_field()));
     }
 }
 
@@ -30,6 +28,7 @@ fn setters_by_name(rt: HostRuntime) -> Result<(), Fail> {
 
 #[test]
 fn fault_of_a_cause(rt: HostRuntime) {
-    let cause = Cause::of_field(ParseErrorKind::Impossible, 8);
+    let cause = Cause::of_field(ParseErrorKind::Impossible, Field::Month);
     assert_eq!(rt; Fault::from(cause).numbers(), (2, 4, 0, 0, 8));
+    assert_eq!(rt; Fault::from(Cause::no_field()).numbers(), (1, 4, 0, 0, 0));
 }

@@ -16,7 +16,7 @@ use scan::kind::ParseErrorKind;
 fn out_of_range(field: Field) -> Fault
     ensures { told {A = Unit {0}} nowhere (Err result) ≡ (not_offered field).ending }
 {
-    Fault::from(Cause::of_field(ParseErrorKind::OutOfRange, field.number()))
+    Fault::from(Cause::of_field(ParseErrorKind::OutOfRange, field))
 }
 
 // One offer, by no item and at no place.

@@ -3,6 +3,7 @@ ghost use Rattle.std.specs.Prelude.{◌≡◌, Some, MatchResult, codes, ◌≢�
 ghost use Rattle.setters.specs.Names.{setter_name};
 ghost use Rattle.setters.specs.declared.setter.Setter.{Setter};
 
+use std::error::Error;
 use std::fmt;
 use std::str::FromStr;
 
@@ -108,6 +109,8 @@ impl fmt::Display for UnknownSetter {
         f.write_str("no field is set by this name")
     }
 }
+
+impl Error for UnknownSetter {}
 
 // The setter of a name, if there is one.
 impl FromStr for Setter {

@@ -9,5 +9,5 @@ unfolding range
 returns-in_default c = (
   ⊎_elim (λ h. let z : c.args.number ≡ 0 = omega arith in rw z refl)
       (beyond c.args.number) (cases_lt c.args.number 22),
-  c.of_field.ensures,
+  c.no_field.ensures,
 )

@@ -27,8 +27,10 @@ module _ (es fs : List Entry) (k : ℕ) (v w : ℤ) (e : fs ≡ es ++ entry k w 
 pub returns-then-not-admits : goal.returns-then-not-admits
 returns-then-not-admits c =
     let q : fits c.args.field c.args.value ≡ false = search rules in
-    subst (λ w. Noted (entries_of c.args.self.now) c.args.field c.args.value (verdict (Err w)) (entries_of c.args.self.now)) (sym c.of_field.ensures)
-    (outside (entries_of c.args.self.now) c.args.field c.args.value (subst (λ n. named n ≡ n) c.in_ok-known.ensures (named_field c.in_ok-known.known)) q)
+    let es = entries_of c.args.self.now in
+    subst (λ w. Noted es c.args.field c.args.value (verdict (Err w)) es) (sym c.of_field.ensures)
+    (subst (λ n. Noted es c.args.field c.args.value (refused 1 4 n) es) (sym c.in_ok-known.ensures)
+    (outside es c.args.field c.args.value (subst (λ n. named n ≡ n) c.in_ok-known.ensures (named_field c.in_ok-known.known)) q))
 
 pub push_reserved-requires : goal.push_reserved-requires
 push_reserved-requires c =
