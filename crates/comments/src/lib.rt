@@ -25,7 +25,7 @@ fn closes(s: &[u8]) -> Result<usize, ParseErrorKind>
     use CommentState::*;
 
     let mut state = Start;
-    // by rule the state is matched with the byte in the loop, and by no fold; the index is the answer
+    // the state is matched with the byte in the loop, and by no fold: docs/DECISIONS.md, "Forms"; the index is the answer
     for (i, b) in s.iter().enumerate() {
         state = match (state, *b) {
             (Start, b'(') => Next(1),

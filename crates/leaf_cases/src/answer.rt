@@ -36,7 +36,7 @@ impl fmt::Display for Reading {
 pub(crate) enum Refusal {
     // the leaf's own answer
     Kind(ParseErrorKind),
-    // this byte begins no character
+    // so many bytes in front are text, and no more
     NotText(usize),
     // the line is no case, or names no leaf
     Unknown,

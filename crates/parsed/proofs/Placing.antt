@@ -5,13 +5,13 @@ use Rattle.std.proofs.lemmas.List.{get_or-set_same, get_or-set_other}
 use Rattle.std.proofs.lemmas.Bool.{and_parts, and_from, cases_eq, cases_lt, cond_both, eqb-true, eq-eqb, ne_eqb}
 use Rattle.std.proofs.lemmas.Int.{to_z-of_z}
 use Rattle.std.proofs.lemmas.Iterator.Adapters.{option_map_id}
-use Rattle.std.specs.Option.{option_map}
+use Rattle.std.specs.Option.{option_map, option_or}
 use Rattle.collect.specs.Fields.{field_number, range, fits}
 use Rattle.collect.specs.Tables.{Table, single, met}
 use Rattle.collect.specs.Judge.{Verdict, with_joined, kept, Offered}
 use Rattle.collect.specs.declared.field.Field.{Field}
 use Rattle.collect.proofs.Ranges.{beyond, has_range, nothing}
-use Rattle.parsed.specs.Slots.{held, all_fit, joined_or, Slotted}
+use Rattle.parsed.specs.Slots.{held, all_fit, Slotted}
 use Rattle.parsed.specs.Records.{fields_of, parsed_table}
 use Rattle.parsed.specs.Fitting.{held_at, fit_ranged}
 use Rattle.parsed.specs.declared.Parsed.{Parsed}
@@ -21,12 +21,12 @@ module _ (t : Table ℤ) (f : ℕ) (v : ℤ) (g : ℕ) where
   as_it_was : t g ≡ cond (g == f) (t f) (t g)
   as_it_was = cond_both (g == f) (t f) (t g) (λ x. t g ≡ x) (λ e. ap t (eqb-true g f e)) (λ e. refl)
 
-  by_parts : (b : Bool) (m : Option ℤ) → cond b (with_joined m t f) t g ≡ cond (g == f) (cond b (joined_or m (t f)) (t f)) (t g)
+  by_parts : (b : Bool) (m : Option ℤ) → cond b (with_joined m t f) t g ≡ cond (g == f) (cond b (option_or m (t f)) (t f)) (t g)
   by_parts true (Some w) = refl
   by_parts true None = as_it_was
   by_parts false m = as_it_was
 
-  kept_at : kept t f v g ≡ cond (g == f) (cond (fits f v) (joined_or (met single (t f) v) (t f)) (t f)) (t g)
+  kept_at : kept t f v g ≡ cond (g == f) (cond (fits f v) (option_or (met single (t f) v) (t f)) (t f)) (t g)
   kept_at = by_parts (fits f v) (met single (t f) v)
 
 -- one entry of a list of fields took an offer
@@ -58,10 +58,10 @@ fit_set n (x ∷ fs) (suc k) new h p =
     and_from (held n x) (all_fit (n + 1) (slice_set fs k new)) b.0 (fit_set (n + 1) fs k new b.1 (subst (λ m. held m new ≡ true) (omega arith) p))
 
 module _ (k : ℕ) (v : ℤ) where
-  held_joined : (old : Option ℤ) (b : Bool) → fits k v ≡ b → held k old ≡ true → held k (cond b (joined_or (met single old v) old) old) ≡ true
+  held_joined : (old : Option ℤ) (b : Bool) → fits k v ≡ b → held k old ≡ true → held k (cond b (option_or (met single old v) old) old) ≡ true
   held_joined None true e h = e
   held_joined None false e h = h
-  held_joined (Some x) true e h = cond_both (int_le x v && int_le v x) (Some x) None (λ m. held k (joined_or m (Some x)) ≡ true) (λ _. h) (λ _. h)
+  held_joined (Some x) true e h = cond_both (int_le x v && int_le v x) (Some x) None (λ m. held k (option_or m (Some x)) ≡ true) (λ _. h) (λ _. h)
   held_joined (Some x) false e h = h
 
 pub fit_placed : (fs : List (Option ℤ)) (k : ℕ) (v : ℤ) (a : Verdict) (new : Option ℤ) → all_fit 0 fs ≡ true → Slotted (slice_index_or fs k None) k v a new → all_fit 0 (slice_set fs k new) ≡ true

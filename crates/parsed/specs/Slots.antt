@@ -1,6 +1,6 @@
 -- One field of a record, as it takes an offer.
 use Rattle.std.specs.Prelude.{◌≡◌, ℕ, ◌+◌, Bool, true, cond, ◌&&◌, List, [], ◌∷◌, ℤ, pos, negsuc, ◌≤ℤ◌, Some, None, Option}
-use Rattle.std.specs.Option.{option_map}
+use Rattle.std.specs.Option.{option_map, option_or}
 use Rattle.names.specs.Days.{day_number}
 use Rattle.names.specs.declared.weekday.Weekday.{Weekday as WeekdayOfNames}
 use Rattle.collect.specs.Fields.{fits, named}
@@ -26,14 +26,10 @@ counts n = option_map pos n
 abbrev pub days : Option WeekdayOfNames → Option ℤ
 days d = option_map (λ x. pos (day_number x)) d
 
-abbrev pub joined_or : Option ℤ → Option ℤ → Option ℤ
-joined_or (Some v) old = Some v
-joined_or None old = old
-
 -- the field f, which held old, took the offer of v with the answer a
 pub record Slotted (old : Option ℤ) (f : ℕ) (v : ℤ) (a : Verdict) (new : Option ℤ) : Type 0 where
   pub answer : a ≡ cond (fits f v) (by_join (met single old v) f) (refused 1 4 (named f))
-  pub after : new ≡ cond (fits f v) (joined_or (met single old v) old) old
+  pub after : new ≡ cond (fits f v) (option_or (met single old v) old) old
 
 -- the types that `Parsed` keeps values in: i32, u32, i64 and Weekday
 pub data KeptAs : Type 0 where

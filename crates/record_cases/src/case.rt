@@ -19,7 +19,7 @@ pub(crate) struct Case {
     agree: bool,
 }
 
-// The call that a text is, if it is one: by `?` on options, with no error to tell.
+// The call that a text is, if it is one.
 fn call_of(text: &str) -> Option<(Setter, i64)> {
     let mut words = text.split_whitespace();
     if words.next()? != "S" {

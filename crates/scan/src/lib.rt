@@ -1,5 +1,5 @@
 // Leaf scanners: what stands at the front of a text, its value, and how many bytes it takes.
-// By rule a leaf answers its value and its count as plain numbers: that the count is a boundary is a clause of each, `cut`, and of no type.
+// A leaf answers its value and its count as plain numbers (docs/DECISIONS.md, "Forms"): that the count is a boundary is a clause of each, `cut`, and of no type.
 #![tactic(auto)]
 
 pub mod kind;

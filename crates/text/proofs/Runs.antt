@@ -78,9 +78,6 @@ pub record Going (p : ℕ → Bool) (s : List ℕ) (n : ℕ) : Type 0 where
 abbrev pub from : List ℕ → ℕ → List ℕ
 from s n = take (length s - n) (drop n s)
 
-pub going_start : (p : ℕ → Bool) (s : List ℕ) → Going p s 0
-going_start p s = record { cut = cut_none s; left = omega arith }
-
 module _ (p : ℕ → Bool) (s : List ℕ) (n : ℕ) (g : Going p s n) where
   pub going_more : (c m w : ℕ) → Some c ≡ first_char (from s n) → p c ≡ true → m ≡ n → w ≡ len_utf8 c → Going p s (m + w)
   going_more c m w e t i j =
@@ -102,16 +99,6 @@ module _ (p : ℕ → Bool) (s : List ℕ) (n : ℕ) (g : Going p s n) where
       let z = run_none p (drop n s) (ap first_char (sym (take_rest s n)) ∙ sym e) in
       let l = g.left in
       omega arith
-
-  -- there is room for one more character
-  pub going_room : (c : ℕ) → Some c ≡ first_char (from s n) → (1 ≤ len_utf8 c) × (n + len_utf8 c ≤ length s)
-  going_room c e =
-      let f : first_char (drop n s) ≡ Some c = ap first_char (sym (take_rest s n)) ∙ sym e in
-      let k = (cut_char (drop n s) c f).within in
-      let h = g.cut.within in
-      let l = length-drop n s in
-      let b = (len_utf8_bounds c).0 in
-      (b, omega arith)
 
 -- a run takes whole characters
 run_cut_by : (p : ℕ → Bool) (most : ℕ) (s : List ℕ) (o : Option ℕ) → first_char s ≡ o → length s ≤ most → Cut s (run p s)

@@ -33,7 +33,7 @@ pub fn blanks(s: &[u8]) -> usize
     ensures cut { Cut s.now result }
 {
     let mut n: usize = 0;
-    // by rule a search of the table inside the loop, left by the label, and not a `run` of a class
+    // a search of the table inside the loop, left by the label, and no `run` of a class: docs/DECISIONS.md, "Forms"
     'chars: while let Some(c) = first_char(&s[n..]) {
         for b in WHITE_SPACE {
             if c == b {
@@ -82,6 +82,7 @@ impl CharClass for NonBlank {
 }
 
 // How many bytes of characters that are no blanks stand in front.
+#[tactic(auto, unfolding(crate::specs::Chars::non_blanks_at))]
 pub fn non_blanks(s: &[u8]) -> usize
     ensures value { result ≡ non_blanks_at s.now }
     ensures cut { Cut s.now result }

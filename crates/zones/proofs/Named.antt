@@ -1,5 +1,5 @@
 -- Zones of mail: the search of the table, names, and letters.
-use Rattle.std.proofs.Common.{◌≡◌, ℕ, ◌+◌, ◌<◌, ◌≤◌, Bool, true, false, cond, eqb, List, [], ◌∷◌, IfSome, Some, None, Option, sym, refl, subst, arith, rules, Bor}
+use Rattle.std.proofs.Common.{◌≡◌, ℕ, ◌<◌, ◌≤◌, Bool, true, false, cond, eqb, List, [], ◌∷◌, IfSome, Some, None, Option, sym, refl, subst, arith, rules, Bor}
 use Rattle.scan.specs.Letters.{alike}
 use Rattle.std.proofs.lemmas.Bool.Decides.{nat_tests}
 use Rattle.std.proofs.lemmas.Bool.{cond_both}
@@ -7,8 +7,9 @@ use Rattle.std.specs.Char.{to_ascii_lowercase, is_ascii_alphabetic}
 use Rattle.std.specs.List.{find}
 use Rattle.std.specs.Option.{option_map}
 use Rattle.text.specs.Cuts.{Cut}
-use Rattle.text.proofs.Cutting.{cut_none, cut_cons}
-use Rattle.zones.specs.Mail.{entries, listed, zone_table, military, or_else, behind, letters_at}
+use Rattle.text.proofs.Cutting.{prefix_cut}
+use Rattle.std.specs.Option.{option_or}
+use Rattle.zones.specs.Mail.{entries, listed, zone_table, military, behind, letters_at}
 
 -- ---- the table
 pick : (b : Bool) (z : Bor (List ℕ) × ℕ) (o : Option (Bor (List ℕ) × ℕ)) → cond b (Some z.1) (option_map (λ z. z.1) o) ≡ option_map (λ z. z.1) (cond b (Some z) o)
@@ -39,7 +40,7 @@ few_military [] = tt
 few_military (a ∷ []) = cond_both (eqb (to_ascii_lowercase a) 106) None (Some 0) Few (λ _. tt) (λ _. omega arith)
 few_military (a ∷ b ∷ bs) = tt
 
-few_or : (o p : Option ℕ) → Few o → Few p → Few (or_else o p)
+few_or : (o p : Option ℕ) → Few o → Few p → Few (option_or o p)
 few_or None p a b = b
 few_or (Some h) p a b = a
 
@@ -56,7 +57,4 @@ letter_ascii b e = grind (arith, nat_tests)
 
 pub letters_cut : (s : List ℕ) → Cut s (letters_at s)
 unfolding letters_at
-letters_cut [] = cut_none []
-letters_cut (b ∷ bs) =
-    cond_both (is_ascii_alphabetic b) (1 + letters_at bs) 0 (λ k. Cut (b ∷ bs) k)
-    (λ e. cut_cons b bs (letters_at bs) (letter_ascii b e) (letters_cut bs)) (λ _. cut_none (b ∷ bs))
+letters_cut s = prefix_cut is_ascii_alphabetic letter_ascii s

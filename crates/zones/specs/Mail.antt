@@ -2,6 +2,7 @@
 use Rattle.std.specs.Prelude.{ℕ, ◌*◌, false, cond, List, [], ◌∷◌, map, take, ℤ, pos, neg_ℤ, Some, None, Ok, Err, codes, Option, Result, ◌==◌}
 use Rattle.std.specs.Borrow.{Bor}
 use Rattle.std.specs.List.{prefix_len}
+use Rattle.std.specs.Option.{option_or}
 use Rattle.scan.specs.Letters.{alike}
 use Rattle.scan.specs.declared.kind.ParseErrorKind.{ParseErrorKind}
 use Rattle.scan.specs.declared.kind.ParseErrorKind.TheVariants.{Invalid}
@@ -30,13 +31,9 @@ military [] = None
 military (a ∷ []) = cond (to_ascii_lowercase a == 106) None (Some 0)
 military (a ∷ b ∷ bs) = None
 
-abbrev pub or_else : Option ℕ → Option ℕ → Option ℕ
-or_else None o = o
-or_else (Some h) o = Some h
-
 -- the hours behind UTC of a name
 unfoldable pub behind : List ℕ → Option ℕ
-behind name = or_else (listed zone_table name) (military name)
+behind name = option_or (listed zone_table name) (military name)
 
 -- how many letters stand in front
 unfoldable pub letters_at : List ℕ → ℕ

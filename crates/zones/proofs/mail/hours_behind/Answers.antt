@@ -1,9 +1,10 @@
 use Rattle.std.proofs.Common.{◌≡◌, ℕ, Some, None, Option, rules, MatchOption, ◌∙◌}
-use Rattle.zones.specs.Mail.{military, or_else, behind}
+use Rattle.std.specs.Option.{option_or}
+use Rattle.zones.specs.Mail.{military, behind}
 use Rattle.zones.proofs.Named.{behind_few}
 use Rattle.zones.proofs.mail.hours_behind.Goals as goal
 
-either : (o p r : Option ℕ) (P : Type 0) → (P → r ≡ p) → MatchOption o P (λ h. r ≡ Some h) → r ≡ or_else o p
+either : (o p r : Option ℕ) (P : Type 0) → (P → r ≡ p) → MatchOption o P (λ h. r ≡ Some h) → r ≡ option_or o p
 either None p r P f h = f h
 either (Some x) p r P f h = h
 
