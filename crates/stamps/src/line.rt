@@ -2,7 +2,10 @@
 use super::form::{Form, Value, read};
 use super::record::{Command, Verb, command_of};
 use scan::kind::ParseErrorKind;
+use setters::setter::UnknownSetter;
 use std::fmt;
+use std::num::ParseIntError;
+use std::str::Utf8Error;
 
 #[derive(Clone, Copy)]
 pub(crate) struct Field<'t> {
@@ -31,64 +34,114 @@ pub(crate) enum Line<'t> {
 #[derive(Clone, Copy)]
 pub(crate) struct UnknownWord;
 
+impl fmt::Display for UnknownWord {
+    fn fmt<W: fmt::Write>(&self, f: &mut fmt::Formatter<W>) -> fmt::Result {
+        f.write_str("the first word names no field, --help lists them")
+    }
+}
+
+// Why a line is refused.
+#[derive(Clone, Copy)]
+pub(crate) enum Reason {
+    Kind(ParseErrorKind),
+    UnknownWord(UnknownWord),
+    UnknownSetter(UnknownSetter),
+    NoNumber,
+    MoreWords,
+}
+
+impl Reason {
+    fn kind(self) -> ParseErrorKind {
+        match self {
+            Reason::Kind(kind) => kind,
+            Reason::UnknownWord(_) | Reason::UnknownSetter(_) => ParseErrorKind::BadFormat,
+            Reason::NoNumber => ParseErrorKind::Invalid,
+            Reason::MoreWords => ParseErrorKind::TooLong,
+        }
+    }
+}
+
+impl fmt::Display for Reason {
+    fn fmt<W: fmt::Write>(&self, f: &mut fmt::Formatter<W>) -> fmt::Result {
+        match *self {
+            Reason::Kind(kind) => write!(f, "{kind}"),
+            Reason::UnknownWord(unknown) => write!(f, "{unknown}"),
+            Reason::UnknownSetter(unknown) => write!(f, "{unknown}"),
+            Reason::NoNumber => f.write_str("the value is no whole number of 64 bits"),
+            Reason::MoreWords => f.write_str("more words than the line takes"),
+        }
+    }
+}
+
+impl From<ParseErrorKind> for Reason {
+    fn from(kind: ParseErrorKind) -> Reason {
+        Reason::Kind(kind)
+    }
+}
+
+impl From<UnknownWord> for Reason {
+    fn from(unknown: UnknownWord) -> Reason {
+        Reason::UnknownWord(unknown)
+    }
+}
+
+impl From<UnknownSetter> for Reason {
+    fn from(unknown: UnknownSetter) -> Reason {
+        Reason::UnknownSetter(unknown)
+    }
+}
+
+// No digits, or out of range: the answer to the line is the same.
+impl From<ParseIntError> for Reason {
+    fn from(_error: ParseIntError) -> Reason {
+        Reason::NoNumber
+    }
+}
+
 #[derive(Clone, Copy)]
 pub(crate) struct Refusal {
-    kind: ParseErrorKind,
+    reason: Reason,
     // the byte of the line where the field begins, or where the line is text no more
     place: usize,
-    // the reason, where it is more than the kind's
-    why: Option<&'static str>,
 }
 
 impl Refusal {
-    pub(crate) fn new(kind: ParseErrorKind, place: usize) -> Refusal {
+    pub(crate) fn at<R: Into<Reason>>(place: usize, reason: R) -> Refusal {
         Refusal {
-            kind,
+            reason: reason.into(),
             place,
-            why: None,
         }
     }
+}
 
-    pub(crate) fn because(kind: ParseErrorKind, place: usize, why: &'static str) -> Refusal {
-        Refusal {
-            kind,
-            place,
-            why: Some(why),
-        }
+impl From<Utf8Error> for Refusal {
+    fn from(error: Utf8Error) -> Refusal {
+        Refusal::at(error.valid_up_to(), ParseErrorKind::NotText)
     }
 }
 
 impl fmt::Display for Refusal {
     fn fmt<W: fmt::Write>(&self, f: &mut fmt::Formatter<W>) -> fmt::Result {
-        let kind = self.kind;
-        let number = kind.number();
         let place = self.place;
-        match self.why {
-            Some(why) => write!(f, "refused {kind:?} ({number}) at {place}: {why}"),
-            None => write!(f, "refused {kind:?} ({number}) at {place}: {kind}"),
-        }
+        let reason = self.reason;
+        let kind = reason.kind();
+        let number = kind.number();
+        write!(f, "refused {kind:?} ({number}) at {place}: {reason}")
     }
 }
 
 pub(crate) fn read_line(bytes: &[u8]) -> Result<Line<'_>, Refusal> {
-    let line = std::str::from_utf8(bytes).map_err(|e| Refusal::new(
-        ParseErrorKind::NotText,
-        e.valid_up_to(),
-    ))?;
+    let line = std::str::from_utf8(bytes)?;
     let (word, rest) = line.split_at(text::non_blanks(line.as_bytes()));
     let (blanks, rest) = rest.split_at(text::blanks(rest.as_bytes()));
     let place = word.len() + blanks.len();
     if let Ok(verb) = word.parse::<Verb>() {
         return Ok(Line::Record(command_of(verb, rest, place)?));
     }
-    let form = word.parse::<Form>().map_err(|_| {
-        Refusal::because(
-            ParseErrorKind::BadFormat,
-            0,
-            "the first word names no field, --help lists them",
-        )
-    })?;
-    let (value, taken) = read(form, rest.as_bytes()).map_err(|kind| Refusal::new(kind, place))?;
+    let form = word
+        .parse::<Form>()
+        .map_err(|unknown| Refusal::at(0, unknown))?;
+    let (value, taken) = read(form, rest.as_bytes()).map_err(|kind| Refusal::at(place, kind))?;
     let left = &rest[taken..];
     Ok(Line::Field(Field { value, taken, left }))
 }

@@ -4,10 +4,9 @@ ghost use Rattle.std.specs.Result.{result_ok};
 ghost use Rattle.stamps.specs.Commands.{verbs, Obeyed};
 ghost use Rattle.stamps.specs.Words.{Stands};
 
-use super::line::{Refusal, UnknownWord};
+use super::line::{Reason, Refusal, UnknownWord};
 use collect::fault::Fault;
 use parsed::Parsed;
-use scan::kind::ParseErrorKind;
 use setters::choice::set;
 use setters::setter::Setter;
 use std::fmt;
@@ -59,32 +58,20 @@ pub(crate) fn command_of(verb: Verb, text: &str, place: usize) -> Result<Command
     let command = match verb {
         Verb::Set => {
             let name = words.next().unwrap_or_default();
-            let setter = name.parse::<Setter>().map_err(|_| {
-                Refusal::because(
-                    ParseErrorKind::BadFormat,
-                    place,
-                    "no field is set by this name",
-                )
-            })?;
+            let setter = name
+                .parse::<Setter>()
+                .map_err(|unknown| Refusal::at(place, unknown))?;
             let number = words.next().unwrap_or_default();
-            let value = number.parse::<i64>().map_err(|_| {
-                Refusal::because(
-                    ParseErrorKind::Invalid,
-                    place,
-                    "the value is no whole number of 64 bits",
-                )
-            })?;
+            let value = number
+                .parse::<i64>()
+                .map_err(|error| Refusal::at(place, error))?;
             Command::Set(setter, value)
         }
         Verb::Show => Command::Show,
         Verb::New => Command::New,
     };
     if words.next().is_some() {
-        return Err(Refusal::because(
-            ParseErrorKind::TooLong,
-            place,
-            "more words than the line takes",
-        ));
+        return Err(Refusal::at(place, Reason::MoreWords));
     }
     Ok(command)
 }
