@@ -14,6 +14,7 @@ use names::weekday::Weekday;
 use scan::kind::ParseErrorKind;
 
 // A type that fields are kept in, whose values stand for numbers.
+// `of` and `number` are no `TryFrom` and `Into`: neither can fail, and the ghost members say what they give.
 pub(crate) trait Kept: Same + Copy {
     ghost kind: { KeptAs };
 

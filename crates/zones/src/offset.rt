@@ -108,7 +108,7 @@ fn separated<S: Separator>(
 }
 
 // The sign and the hours: is it negative, the hours, and how many bytes they take.
-// The sign stands beside the hours, since that of -00:30 is not in them.
+// The sign stands beside the hours, since that of -00:30 is not in them, as chrono's `negative`.
 #[tactic(auto, unfolding(crate::specs::Offsets::signed_hours_at))]
 fn signed_hours(s: &[u8], allow_tz_minus_sign: bool) -> Result<(bool, u32, usize), ParseErrorKind>
     ensures value { result ≡ signed_hours_at allow_tz_minus_sign s.now }
