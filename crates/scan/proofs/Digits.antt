@@ -1,21 +1,11 @@
 -- Digits: one more, the end, how large a number is, and where it cuts.
-use Rattle.std.proofs.Common.{◌≡◌, ℕ, suc, ◌+◌, ◌-◌, ◌*◌, ◌^◌, ◌<◌, ◌≤◌, true, false, cond, ltb, leb, List, [], ◌∷◌, length, get_or, take, drop, ℤ, pos, ◌+ℤ◌, ◌*ℤ◌, Some, None, Option, IfOk, Ok, Err, Result, sym, refl, ap, ◌∙◌, subst, ⊎_elim, mul-le-mul_right, mul_assoc, mul_comm, one-mul, pow-suc, mul-one, min, Iter, Bor, arith, w64, SFits, to_z, of_z}
+use Rattle.std.proofs.Common.{◌≡◌, ℕ, suc, ◌+◌, ◌-◌, ◌*◌, ◌^◌, ◌<◌, ◌≤◌, true, false, cond, ltb, leb, List, [], ◌∷◌, length, get_or, take, drop, ℤ, pos, ◌+ℤ◌, ◌*ℤ◌, Some, None, Option, IfOk, Ok, Err, Result, sym, refl, ap, ◌∙◌, subst, ⊎_elim, mul-le-mul_right, mul_assoc, mul_comm, one-mul, pow-suc, mul-one, min, arith, w64, SFits, to_z, of_z}
 use native.Mathlib.Nat.{pow-zero}
-use Rattle.std.proofs.lemmas.List.{at_drop_more, at_drop_all, length-take, get_or-take, get_or_default}
-use Rattle.std.proofs.lemmas.List.FromFn.{get_or-enumerate_from, length-enumerate_from}
+use Rattle.std.proofs.lemmas.List.{at_drop_more, at_drop_all, length-take, get_or-take}
 use Rattle.std.proofs.lemmas.Int.{to_z_pos}
 use Rattle.std.proofs.lemmas.Bool.{cases_lt, cond_both, leb-true, leb-false, and_parts}
 use Rattle.std.proofs.lemmas.Bool.Decides.{nat_tests}
-use Rattle.std.proofs.iter.Yields.{fronts}
-use Rattle.std.proofs.lemmas.Iterator.{YieldsList, YieldsList-from_slice, YieldsList-from_take}
-use Rattle.std.proofs.lemmas.Iterator.Consumers.{YieldsList-from_enumerate, YieldsList-turn, YieldsList-end}
-use Rattle.std.specs.declared.iter.Enumerate.{Enumerate}
-use Rattle.std.specs.declared.iter.Take.{Take}
-use Rattle.std.specs.Iterator.{Yields}
-use Rattle.std.specs.Iterator.Adapters.{enumerate_source, enumerate_count, enumerate_steps, take_source, take_count, take_steps}
-use Rattle.std.specs.List.{enumerate_from}
 use Rattle.std.specs.Option.{SomeIff, MatchOption}
-use Rattle.std.specs.Slice.Iter.{iter_rest}
 use Rattle.std.specs.Str.Parse.{AllDigits, digits_value_after}
 use Rattle.std.specs.Char.{is_ascii_digit, digit_value as digitValue}
 use Rattle.scan.specs.declared.kind.ParseErrorKind.{ParseErrorKind}
@@ -40,41 +30,84 @@ one_more lo hi v i s h = at_drop_more (numeral_from lo hi v i) s i 0 h
 no_more : (lo hi v i : ℕ) (s : List ℕ) → length s ≤ i → numeral_from lo hi v i (drop i s) ≡ Ok (v, i)
 no_more lo hi v i s h = at_drop_all (numeral_from lo hi v i) s i h
 
-module _ (lo hi v i : ℕ) (s : List ℕ) (l : i < length s) where
-  at_most : hi ≤ i → numeral_from lo hi v i (drop i s) ≡ Ok (v, i)
-  at_most h = one_more lo hi v i s l ∙ grind (arith, nat_tests)
-
-  module _ (h : i < hi) where
-    pub none_yet : is_ascii_digit (get_or s i 0) ≡ false → i < lo → numeral_from lo hi v i (drop i s) ≡ Err Invalid
-    none_yet d k = one_more lo hi v i s l ∙ (let q : leb hi i ≡ false = grind (arith, nat_tests) in let t : ltb i lo ≡ true = grind (arith, nat_tests) in rw (q, d, t) refl)
-
-    pub enough : is_ascii_digit (get_or s i 0) ≡ false → lo ≤ i → numeral_from lo hi v i (drop i s) ≡ Ok (v, i)
-    enough d k = one_more lo hi v i s l ∙ (let q : leb hi i ≡ false = grind (arith, nat_tests) in let t : ltb i lo ≡ false = grind (arith, nat_tests) in rw (q, d, t) refl)
-
-    pub too_large : is_ascii_digit (get_or s i 0) ≡ true → largest < v * 10 + (get_or s i 0 - 48) → numeral_from lo hi v i (drop i s) ≡ Err OutOfRange
-    too_large d k =
-        one_more lo hi v i s l ∙ (let q : leb hi i ≡ false = grind (arith, nat_tests) in let t : leb (v * 10 + (get_or s i 0 - 48)) largest ≡ false = grind (arith, nat_tests) in rw (q, d, t) refl)
-
-    pub goes_on : is_ascii_digit (get_or s i 0) ≡ true → v * 10 + (get_or s i 0 - 48) ≤ largest
-        → numeral_from lo hi v i (drop i s) ≡ numeral_from lo hi (v * 10 + (get_or s i 0 - 48)) (i + 1) (drop (i + 1) s)
-    goes_on d k =
-        one_more lo hi v i s l ∙ (let q : leb hi i ≡ false = grind (arith, nat_tests) in let t : leb (v * 10 + (get_or s i 0 - 48)) largest ≡ true = grind (arith, nat_tests) in rw (q, d, t) refl)
-
 pub too_short : (lo hi : ℕ) (s : List ℕ) → length s < lo → Err TooShort ≡ number_at lo hi s
 unfolding numeral_at
 too_short lo hi s h = grind (arith, nat_tests)
 
-whole : (lo hi : ℕ) (s : List ℕ) → lo ≤ length s → numeral_from lo hi 0 0 s ≡ numeral_at lo hi s
+-- ---- a number that grows by a digit, in 64 bits
+-- it fits exactly if it is at most the largest
+over : (z : ℤ) (m : ℕ) → z ≡ pos m → (SFits w64 z → ⊥) → largest < m
+over z m e f = ⊎_elim (λ l. absurd (f (rw e (record { sfits = l })))) (λ l. omega arith) (cases_lt m (2 ^ 63))
+
+under : (z : ℤ) (m : ℕ) → z ≡ pos m → SFits w64 z → m ≤ largest
+under z m e f = let g : SFits w64 (pos m) = rw e at f in omega (arith, g.sfits)
+
+tenfold : (n : ℤ) (v : ℕ) → n ≡ pos v → n *ℤ pos 10 ≡ pos (v * 10)
+tenfold n v e = rw e refl
+
+added : (n t : ℤ) (v d : ℕ) → n ≡ pos v → SFits w64 (n *ℤ pos 10) × (t ≡ n *ℤ pos 10) → to_z w64 (of_z w64 t) +ℤ pos d ≡ pos (v * 10 + d)
+added n t v d e f =
+    let t' : t ≡ pos (v * 10) = f.1 ∙ tenfold n v e in
+    let m = under _ _ (tenfold n v e) f.0 in
+    rw (t', to_z_pos w64 (v * 10) (omega arith)) refl
+
+-- ten times the number, if that fits, and then the digit, if that fits
+grown : (n : ℤ) (v d : ℕ) (m r : Option ℤ) → n ≡ pos v → SomeIff m (SFits w64 (n *ℤ pos 10)) (n *ℤ pos 10)
+    → MatchOption m (r ≡ None) (λ t. SomeIff r (SFits w64 (to_z w64 (of_z w64 t) +ℤ pos d)) (to_z w64 (of_z w64 t) +ℤ pos d))
+    → MatchOption r (largest < v * 10 + d) (λ t. (t ≡ pos (v * 10 + d)) × (v * 10 + d ≤ largest))
+grown n v d None None e f g = let p = over _ _ (tenfold n v e) f in omega arith
+grown n v d None (Some t) e f g = cc
+grown n v d (Some x) None e f g = over _ _ (added n x v d e f) g
+grown n v d (Some x) (Some t) e f g = let z = added n x v d e f in (g.1 ∙ z, under _ _ z g.0)
+
+-- ---- the loop: after i bytes the digits' value is v, and what is left gives the whole result
+pub record Reads (lo hi : ℕ) (s : List ℕ) (z : ℤ) (i : ℕ) : Type 0 where
+  pub value : ℕ
+  pub is : z ≡ pos value
+  pub small : value ≤ largest
+  pub left : as_integer (numeral_from lo hi value i (drop i s)) ≡ number_at lo hi s
+
+pub starts : (lo hi : ℕ) (s : List ℕ) → lo ≤ length s → Reads lo hi s (pos 0) 0
 unfolding numeral_at
-whole lo hi s h = grind (arith, nat_tests)
+starts lo hi s h = record { value = 0; is = refl; small = omega arith; left = grind (arith, nat_tests) }
 
--- the answer, where what is left gives it
-pub ends : (lo hi : ℕ) (s left : List ℕ) (v i : ℕ) (x : Result (ℕ × ℕ) ParseErrorKind) → lo ≤ length s
-    → numeral_from lo hi v i left ≡ numeral_from lo hi 0 0 s → numeral_from lo hi v i left ≡ x → as_integer x ≡ number_at lo hi s
-ends lo hi s left v i x l e q = ap as_integer (sym q ∙ (e ∙ whole lo hi s l))
+module _ {lo hi m i : ℕ} {s : List ℕ} {z : ℤ} (inv : Reads lo hi s z i) (front : m ≡ min (length s) hi) where
+  -- while bytes of the front are left, the next one gives it
+  pub turn : i < length (take m s)
+      → as_integer (cond (is_ascii_digit (get_or (take m s) i 0))
+      (cond (leb (inv.value * 10 + (get_or (take m s) i 0 - 48)) largest) (numeral_from lo hi (inv.value * 10 + (get_or (take m s) i 0 - 48)) (i + 1) (drop (i + 1) s)) (Err OutOfRange))
+      (cond (ltb i lo) (Err Invalid) (Ok (inv.value, i))))
+      ≡ number_at lo hi s
+  turn l =
+      let t = length-take m s in
+      let g : get_or (take m s) i 0 ≡ get_or s i 0 = get_or-take m s i 0 (omega arith) in
+      let q : leb hi i ≡ false = grind (arith, nat_tests) in
+      rw g (rw (one_more lo hi inv.value i s (omega arith), q) at inv.left)
 
-pub granted : (z : ℤ) (v n : ℕ) → z ≡ pos v → Ok (z, n) ≡ as_integer (Ok (v, n))
-granted z v n e = ap (λ y. Ok (y, n)) e
+  -- a digit refuses it by its size, or is read
+  pub digit : (t r : Option ℤ) → i < length (take m s) → true ≡ is_ascii_digit (get_or (take m s) i 0) → SomeIff t (SFits w64 (z *ℤ pos 10)) (z *ℤ pos 10)
+      → MatchOption t (r ≡ None) (λ x. SomeIff r (SFits w64 (to_z w64 (of_z w64 x) +ℤ pos (get_or (take m s) i 0 - 48))) (to_z w64 (of_z w64 x) +ℤ pos (get_or (take m s) i 0 - 48)))
+      → MatchOption r (Err OutOfRange ≡ number_at lo hi s) (λ x. Reads lo hi s (to_z w64 (of_z w64 x)) (i + 1))
+  digit t None l d f g =
+      let h = grown z inv.value _ t None inv.is f g in
+      let k : leb (inv.value * 10 + (get_or (take m s) i 0 - 48)) largest ≡ false = grind (arith, nat_tests) in
+      rw (← d, k) at (turn l)
+  digit t (Some x) l d f g =
+      let h = grown z inv.value _ t (Some x) inv.is f g in
+      let w = inv.value * 10 + (get_or (take m s) i 0 - 48) in
+      let u = h.1 in
+      let k : leb w largest ≡ true = grind (arith, nat_tests) in
+      record { value = w; is = rw (h.0, to_z_pos w64 w (omega arith)) refl; small = u; left = rw (← d, k) at (turn l) }
+
+  -- and behind it, what is read is the whole
+  pub ends : i ≡ length (take m s) → Ok (z, length (take m s)) ≡ number_at lo hi s
+  ends l =
+      let t = length-take m s in
+      let e : numeral_from lo hi inv.value i (drop i s) ≡ Ok (inv.value, i) = ⊎_elim
+      (λ h. let q : leb hi i ≡ true = grind (arith, nat_tests) in rw (one_more lo hi inv.value i s h, q) refl)
+      (λ h. no_more lo hi inv.value i s h)
+      (cases_lt i (length s)) in
+      rw (← l, inv.is) (rw e at inv.left)
 
 -- ---- how large it is, and where it cuts
 -- from v and n on, k more digits
@@ -142,113 +175,38 @@ unfolding numeral_at
 numeral_more lo hi s =
     cond_both (ltb (length s) lo) (Err TooShort) (numeral_from lo hi 0 0 s) (λ x. IfOk x (λ p. More hi 0 0 s p.0 p.1)) (λ _. tt) (λ _. more_from lo hi 0 0 s)
 
-numeral_cut : (hi : ℕ) (s : List ℕ) (w m : ℕ) → More hi 0 0 s w m → Cut s m
-numeral_cut hi s w m r = let e = r.count in subst (λ k. Cut s k) (omega arith) r.cut
-
-numeral_written : (hi : ℕ) (s : List ℕ) (w m : ℕ) → More hi 0 0 s w m → Written hi s (pos w) m
-numeral_written hi s w m r =
+kept : (hi : ℕ) (s : List ℕ) (w m : ℕ) → More hi 0 0 s w m → Cut s m × Written hi s (pos w) m
+kept hi s w m r =
     let e = r.count in
     let q : r.more ≡ m = omega arith in
     let b = r.small in
-    let u : (0 + 1) * 10 ^ r.more ≡ 10 ^ m = one-mul (10 ^ r.more) ∙ ap (λ k. 10 ^ k) q in
-    record {
-      number = w;
-      is = refl;
-      digits = subst (λ k. AllDigits 10 (take k s)) q r.digits;
-      decimal = r.decimal ∙ ap (λ k. digits_value_after 10 0 (take k s)) q;
-      small = omega arith;
-      few = r.few (omega arith);
-    }
+    let u : (0 + 1) * 10 ^ r.more ≡ 10 ^ m = one-mul (10 ^ r.more) ∙ ap (λ k. 10 ^ k) q in (
+      subst (Cut s) q r.cut,
+      record {
+        number = w;
+        is = refl;
+        digits = subst (λ k. AllDigits 10 (take k s)) q r.digits;
+        decimal = r.decimal ∙ ap (λ k. digits_value_after 10 0 (take k s)) q;
+        small = omega arith;
+        few = r.few (omega arith);
+      },
+    )
 
-cuts_integer : (hi : ℕ) (s : List ℕ) (x : Result (ℕ × ℕ) ParseErrorKind) → IfOk x (λ p. More hi 0 0 s p.0 p.1) → Cuts s (as_integer x)
-cuts_integer hi s (Ok p) r = numeral_cut hi s p.0 p.1 r
-cuts_integer hi s (Err e) r = tt
+kept_integer : (hi : ℕ) (s : List ℕ) (x : Result (ℕ × ℕ) ParseErrorKind) → IfOk x (λ p. More hi 0 0 s p.0 p.1) → Cuts s (as_integer x) × IfOk (as_integer x) (λ p. Written hi s p.0 p.1)
+kept_integer hi s (Ok p) r = kept hi s p.0 p.1 r
+kept_integer hi s (Err e) r = (tt, tt)
 
-written_integer : (hi : ℕ) (s : List ℕ) (x : Result (ℕ × ℕ) ParseErrorKind) → IfOk x (λ p. More hi 0 0 s p.0 p.1) → IfOk (as_integer x) (λ p. Written hi s p.0 p.1)
-written_integer hi s (Ok p) r = numeral_written hi s p.0 p.1 r
-written_integer hi s (Err e) r = tt
-
-pub number_cut : (lo hi : ℕ) (s : List ℕ) → Cuts s (number_at lo hi s)
-number_cut lo hi s = cuts_integer hi s (numeral_at lo hi s) (numeral_more lo hi s)
-
-pub number_written : (lo hi : ℕ) (s : List ℕ) → IfOk (number_at lo hi s) (λ p. Written hi s p.0 p.1)
-number_written lo hi s = written_integer hi s (numeral_at lo hi s) (numeral_more lo hi s)
-
--- ---- a number that grows by a digit, in 64 bits
--- it fits exactly if it is at most the largest
-over : (z : ℤ) (m : ℕ) → z ≡ pos m → (SFits w64 z → ⊥) → largest < m
-over z m e f = ⊎_elim (λ l. absurd (f (rw e (record { sfits = l })))) (λ l. omega arith) (cases_lt m (2 ^ 63))
-
-under : (z : ℤ) (m : ℕ) → z ≡ pos m → SFits w64 z → m ≤ largest
-under z m e f = let g : SFits w64 (pos m) = rw e at f in omega (arith, g.sfits)
-
-tenfold : (n : ℤ) (v : ℕ) → n ≡ pos v → n *ℤ pos 10 ≡ pos (v * 10)
-tenfold n v e = rw e refl
-
-added : (n t : ℤ) (v d : ℕ) → n ≡ pos v → SFits w64 (n *ℤ pos 10) × (t ≡ n *ℤ pos 10) → to_z w64 (of_z w64 t) +ℤ pos d ≡ pos (v * 10 + d)
-added n t v d e f =
-    let t' : t ≡ pos (v * 10) = f.1 ∙ tenfold n v e in
-    let m = under _ _ (tenfold n v e) f.0 in
-    rw (t', to_z_pos w64 (v * 10) (omega arith)) refl
-
--- ten times the number, if that fits, and then the digit, if that fits
-pub grown : (n : ℤ) (v d : ℕ) (m r : Option ℤ) → n ≡ pos v → SomeIff m (SFits w64 (n *ℤ pos 10)) (n *ℤ pos 10)
-    → MatchOption m (r ≡ None) (λ t. SomeIff r (SFits w64 (to_z w64 (of_z w64 t) +ℤ pos d)) (to_z w64 (of_z w64 t) +ℤ pos d))
-    → MatchOption r (largest < v * 10 + d) (λ t. (t ≡ pos (v * 10 + d)) × (v * 10 + d ≤ largest))
-grown n v d None None e f g = let p = over _ _ (tenfold n v e) f in omega arith
-grown n v d None (Some t) e f g = absurd (let q : ◌≡◌ {A = ℕ} 0 1 = cc in omega arith)
-grown n v d (Some x) None e f g = over _ _ (added n x v d e f) g
-grown n v d (Some x) (Some t) e f g = let z = added n x v d e f in (g.1 ∙ z, under _ _ z g.0)
-
--- ---- the bytes that are read, and their places
-module _ (hi : ℕ) (s : List ℕ) where
-  length_read : length (enumerate_from 0 (take hi s)) ≡ min hi (length s)
-  length_read = length-enumerate_from 0 (take hi s) ∙ length-take hi s
-
-  one_read : (k : ℕ) (p : ℕ × ℕ) → k < min hi (length s) → p ≡ get_or (enumerate_from 0 (take hi s)) k p → (p.0 ≡ k) × (p.1 ≡ get_or s k 0)
-  one_read k p l h =
-      let t = length-take hi s in
-      let e : p ≡ (0 + k, get_or (take hi s) k p.1) = h ∙ get_or-enumerate_from 0 (take hi s) k p (omega arith) in
-      let f : p.0 ≡ 0 + k = ap (λ x. x.0) e in
-      (omega arith, ap (λ x. x.1) e ∙ (get_or-take hi s k p.1 (omega arith) ∙ get_or_default s k p.1 0 (omega arith)))
-
-  -- an iterator of the first hi bytes, with their places, and what it has yielded
-  module _ (start now : Enumerate (Take (Iter ℕ))) (ys : List (ℕ × Bor ℕ))
-      (rest : iter_rest (take_source (enumerate_source start)) ≡ s) (most : take_count (enumerate_source start) ≡ hi) (first : enumerate_count start ≡ 0)
-      (so_far : Yields (enumerate_steps (take_steps fronts)) start ys now) where
-    yields : YieldsList (enumerate_steps (take_steps fronts)) (λ p. (p.0, p.1.now)) start (enumerate_from 0 (take hi s))
-    yields = YieldsList-from_enumerate (YieldsList-from_take hi (YieldsList-from_slice s rest) most) first
-
-    pub read : (r : Option (ℕ × Bor ℕ)) (next : Enumerate (Take (Iter ℕ))) (p : ℕ × Bor ℕ) → r ≡ Some p → enumerate_steps (take_steps fronts) now r next
-        → (length ys < length s) × (length ys < hi) × (p.0 ≡ length ys) × (p.1.now ≡ get_or s (length ys) 0)
-    read r next p e t =
-        let y = YieldsList-turn yields ys now so_far r next p e t in
-        let l = length_read in
-        let o = one_read (length ys) (p.0, p.1.now) (omega (arith, y.0)) y.1 in
-        (omega (arith, y.0), omega (arith, y.0), o.0, o.1)
-
-    pub all_read : (r : Option (ℕ × Bor ℕ)) (next : Enumerate (Take (Iter ℕ))) → r ≡ None → enumerate_steps (take_steps fronts) now r next → length ys ≡ min hi (length s)
-    all_read r next e t = (YieldsList-end yields ys now so_far r next e t).1 ∙ length_read
-
-pub at_end : (lo hi v k : ℕ) (s : List ℕ) → k ≡ min hi (length s) → numeral_from lo hi v k (drop k s) ≡ Ok (v, k)
-at_end lo hi v k s e = ⊎_elim (λ h. at_most lo hi v k s h (omega arith)) (λ h. no_more lo hi v k s (omega arith)) (cases_lt k (length s))
-
--- ---- the loop: after i bytes the digits' value is v, and what is left gives the whole result
-module _ (lo hi : ℕ) (s : List ℕ) (l : lo ≤ length s) (z : ℤ) (i : ℕ)
-    (inv : (v : ℕ) × (z ≡ pos v) × (v ≤ largest) × (numeral_from lo hi v i (drop i s) ≡ numeral_from lo hi 0 0 s)) where
-  pub says_ok : numeral_from lo hi inv.0 i (drop i s) ≡ Ok (inv.0, i) → Ok (z, i) ≡ number_at lo hi s
-  says_ok q = granted z inv.0 i inv.1 ∙ ends lo hi s (drop i s) inv.0 i (Ok (inv.0, i)) l inv.3 q
-
-  pub says_err : (e : ParseErrorKind) → numeral_from lo hi inv.0 i (drop i s) ≡ Err e → Err e ≡ number_at lo hi s
-  says_err e q = ends lo hi s (drop i s) inv.0 i (Err e) l inv.3 q
+-- what is promised beside the value holds of it
+pub number_kept : (lo hi : ℕ) (s : List ℕ) (r : Result (ℤ × ℕ) ParseErrorKind) → r ≡ number_at lo hi s → Cuts s r × IfOk r (λ p. Written hi s p.0 p.1)
+number_kept lo hi s r e = subst (λ x. Cuts s x × IfOk x (λ p. Written hi s p.0 p.1)) (sym e) (kept_integer hi s (numeral_at lo hi s) (numeral_more lo hi s))
 
 -- ---- a number back from its answer
 pub as_ok : (x : Result (ℕ × ℕ) ParseErrorKind) (z : ℤ) (n : ℕ) → Ok (z, n) ≡ as_integer x → (w : ℕ) × (z ≡ pos w) × (Ok (w, n) ≡ x)
 as_ok (Ok p) z n e =
     let q : ◌≡◌ {A = ℤ × ℕ} (z, n) (pos p.0, p.1) = cc in
     (p.0, ap (λ x. x.0) q, ap (λ x. Ok (p.0, x.1)) q)
-as_ok (Err d) z n e = absurd (let q : ◌≡◌ {A = ℕ} 0 1 = cc in omega arith)
+as_ok (Err d) z n e = cc
 
 pub as_err : (x : Result (ℕ × ℕ) ParseErrorKind) (d : ParseErrorKind) → Err d ≡ as_integer x → Err d ≡ x
-as_err (Ok p) d e = absurd (let q : ◌≡◌ {A = ℕ} 0 1 = cc in omega arith)
+as_err (Ok p) d e = cc
 as_err (Err c) d e = let q : d ≡ c = cc in ap Err q

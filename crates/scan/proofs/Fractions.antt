@@ -1,6 +1,6 @@
 -- Fractions of a second: the table of scales, what is read, and where it cuts.
-use Rattle.std.proofs.Common.{◌≡◌, ℕ, zero, suc, ◌+◌, ◌-◌, ◌*◌, ◌^◌, ◌<◌, ◌≤◌, Bool, true, ◌&&◌, eqb, List, [], ◌∷◌, get_or, drop, ℤ, pos, nat_abs, Ok, Err, sym, refl, ap, ◌∙◌, subst, ⊎_elim, mul-lt-mul_of_pos_right, pow-suc, arith, pow-add}
-use Rattle.std.proofs.lemmas.Bool.{and_parts, cases_lt, cond_both, eqb-true}
+use Rattle.std.proofs.Common.{◌≡◌, ℕ, zero, suc, ◌+◌, ◌-◌, ◌*◌, ◌^◌, ◌<◌, ◌≤◌, true, eqb, List, [], ◌∷◌, get_or, drop, ℤ, pos, nat_abs, Ok, Err, sym, refl, ap, ◌∙◌, subst, mul-lt-mul_of_pos_right, pow-suc, arith, pow-add}
+use Rattle.std.proofs.lemmas.Bool.{agree_below_at, cond_both, eqb-true}
 use Rattle.std.specs.Char.{is_ascii_digit}
 use Rattle.scan.specs.declared.kind.ParseErrorKind.{ParseErrorKind}
 use Rattle.scan.specs.Numbers.{numeral_at, number_at, Written, digits_at, fraction_at}
@@ -9,22 +9,11 @@ use Rattle.text.proofs.Cutting.{cut_none, cut_cons, cut_more}
 use Rattle.scan.proofs.Digits.{as_ok, as_err, digit_is}
 use Rattle.scan.proofs.Leaves.{then_ok, then_err}
 
--- two functions are the same below k, by a test that computes
-abbrev agree : (ℕ → ℕ) → (ℕ → ℕ) → ℕ → Bool
-agree f g zero = true
-agree f g (suc k) = eqb (f k) (g k) && agree f g k
-
-agreed : (f g : ℕ → ℕ) (k n : ℕ) → agree f g k ≡ true → n < k → f n ≡ g n
-agreed f g zero n e h = absurd (omega arith)
-agreed f g (suc k) n e h =
-    let p = and_parts (eqb (f k) (g k)) (agree f g k) e in
-    ⊎_elim (λ l. agreed f g k n p.1 l) (λ l. let q : n ≡ k = omega arith in rw q (eqb-true (f k) (g k) p.0)) (cases_lt n k)
-
 abbrev pub scale : List ℕ
 scale = 1000000000 ∷ 100000000 ∷ 10000000 ∷ 1000000 ∷ 100000 ∷ 10000 ∷ 1000 ∷ 100 ∷ 10 ∷ 1 ∷ []
 
 scale_is : (n : ℕ) → n ≤ 9 → get_or scale n 0 ≡ 10 ^ (9 - n)
-scale_is n h = agreed (λ k. get_or scale k 0) (λ k. 10 ^ (9 - k)) 10 n refl (omega arith)
+scale_is n h = eqb-true _ _ (agree_below_at (λ k. eqb (get_or scale k 0) (10 ^ (9 - k))) (λ _. true) 10 n refl (omega arith))
 
 positive : (k : ℕ) → 0 < 10 ^ k
 positive zero = omega arith

@@ -1,18 +1,16 @@
 -- What every leaf's proof uses: its cut from its value, and the exits of `?`.
 use Rattle.std.proofs.Common.{◌≡◌, ℕ, List, IfOk, Ok, Err, Result, sym, ap, ◌∙◌, subst}
 use Rattle.scan.specs.declared.kind.ParseErrorKind.{ParseErrorKind}
-use Rattle.scan.specs.Steps.{bind, Cuts, CutsMark}
+use Rattle.scan.specs.Steps.{bind, CutsMark}
+use Rattle.text.specs.Cuts.{Cut}
 
--- an answer cuts where its definition does
-pub cuts_by : {A : Type 0} (s : List ℕ) (r x : Result (A × ℕ) ParseErrorKind) → r ≡ x → Cuts s x → Cuts s r
-cuts_by s r x e c = subst (Cuts s) (sym e) c
-
-pub cuts_mark_by : (s : List ℕ) (r x : Result ℕ ParseErrorKind) → r ≡ x → CutsMark s x → CutsMark s r
-cuts_mark_by s r x e c = subst (CutsMark s) (sym e) c
-
--- and what is said of the definition holds of the answer
+-- what is said of the definition holds of the answer
 pub made_by : {A : Type 0} (P : A → Type 0) (r x : Result A ParseErrorKind) → r ≡ x → IfOk x P → IfOk r P
 made_by P r x e c = subst (λ y. IfOk y P) (sym e) c
+
+-- so an answer cuts where its definition does
+pub cuts_mark_by : (s : List ℕ) (r x : Result ℕ ParseErrorKind) → r ≡ x → CutsMark s x → CutsMark s r
+cuts_mark_by s r x e c = made_by (λ n. Cut s n) r x e c
 
 -- the exit of a `?`: what is returned is the kind that came
 pub exits : {A : Type 0} (r x : Result A ParseErrorKind) (y e : ParseErrorKind) → r ≡ Err y → y ≡ e → Err e ≡ x → r ≡ x

@@ -2,6 +2,7 @@
 ghost use Rattle.std.specs.Prelude.{◌≡◌, Some};
 ghost use Rattle.scan.specs.Kinds.{kind_number, kind_text};
 
+use std::error::Error;
 use std::fmt;
 
 #[derive(Clone, Copy, PartialEq, Eq, Debug)]
@@ -46,3 +47,5 @@ impl fmt::Display for ParseErrorKind {
         })
     }
 }
+
+impl Error for ParseErrorKind {}

@@ -15,8 +15,9 @@ pub fn number(s: &[u8], min: usize, max: usize) -> Result<(i64, usize), ParseErr
     if s.len() < min {
         return Err(ParseErrorKind::TooShort);
     }
+    let front = &s[..s.len().min(max)];
     let mut n: i64 = 0;
-    for (i, b) in s.iter().take(max).enumerate() {
+    for (i, b) in front.iter().enumerate() {
         if !b.is_ascii_digit() {
             return if i < min {
                 Err(ParseErrorKind::Invalid)
@@ -29,7 +30,7 @@ pub fn number(s: &[u8], min: usize, max: usize) -> Result<(i64, usize), ParseErr
             .and_then(|n| n.checked_add(i64::from(*b - b'0')))
             .ok_or(ParseErrorKind::OutOfRange)?;
     }
-    Ok((n, s.len().min(max)))
+    Ok((n, front.len()))
 }
 
 // How many digits stand in front.
