@@ -1,11 +1,11 @@
 -- Fractions of a second: the table of scales, what is read, and where it cuts.
 use Rattle.std.proofs.Common.{◌≡◌, ℕ, zero, suc, ◌+◌, ◌-◌, ◌*◌, ◌^◌, ◌<◌, ◌≤◌, true, eqb, List, [], ◌∷◌, get_or, drop, ℤ, pos, nat_abs, Ok, Err, sym, refl, ap, ◌∙◌, subst, mul-lt-mul_of_pos_right, pow-suc, arith, pow-add}
-use Rattle.std.proofs.lemmas.Bool.{agree_below_at, cond_both, eqb-true}
+use Rattle.std.proofs.lemmas.Bool.{agree_below_at, eqb-true}
 use Rattle.std.specs.Char.{is_ascii_digit}
 use Rattle.scan.specs.declared.kind.ParseErrorKind.{ParseErrorKind}
 use Rattle.scan.specs.Numbers.{numeral_at, number_at, Written, digits_at, fraction_at}
 use Rattle.text.specs.Cuts.{Cut}
-use Rattle.text.proofs.Cutting.{cut_none, cut_cons, cut_more}
+use Rattle.text.proofs.Cutting.{cut_more, prefix_cut}
 use Rattle.scan.proofs.Digits.{as_ok, as_err, digit_is}
 use Rattle.scan.proofs.Leaves.{then_ok, then_err}
 
@@ -46,10 +46,7 @@ fraction_err lo hi s d e = then_err (numeral_at lo hi s) _ d (as_err (numeral_at
 
 -- digits are ASCII
 digits_cut : (s : List ℕ) → Cut s (digits_at s)
-digits_cut [] = cut_none []
-digits_cut (b ∷ bs) =
-    cond_both (is_ascii_digit b) (1 + digits_at bs) 0 (λ k. Cut (b ∷ bs) k)
-    (λ d. let g = digit_is b d in cut_cons b bs (digits_at bs) (omega arith) (digits_cut bs)) (λ _. cut_none (b ∷ bs))
+digits_cut s = prefix_cut is_ascii_digit (λ b d. let g = digit_is b d in omega arith) s
 
 pub nanosecond_cut : (s : List ℕ) (n k : ℕ) → Cut s n → k ≡ digits_at (drop n s) → Cut s (n + k)
 nanosecond_cut s n k c q = subst (λ x. Cut s (n + x)) (sym q) (cut_more s n (digits_at (drop n s)) c (digits_cut (drop n s)))
