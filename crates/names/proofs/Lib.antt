@@ -1,4 +1,3 @@
 pub mod Alike
-pub mod Places
+pub mod Entries
 pub mod Taken
-pub mod Values

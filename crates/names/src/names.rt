@@ -1,40 +1,39 @@
 // English names in front of a text, short or long, ASCII case ignored.
-ghost use Rattle.std.specs.Prelude.{◌≡◌, ◌<◌, length, IfOk};
+ghost use Rattle.std.specs.Prelude.{◌≡◌, ◌<◌, IfOk};
 ghost use Rattle.scan.specs.Steps.{Cuts};
-ghost use Rattle.text.specs.Cuts.{Cut};
-ghost use Rattle.names.specs.Names.{begins_alike, texts, AreNames, short_at, short_or_long_at};
+ghost use Rattle.names.specs.Names.{begins_alike, entries, said, names_of, AreNames, entry_at, short_at, short_or_long_at};
 ghost use Rattle.names.specs.Names.{short_month0_at, short_or_long_month0_at, short_weekday_at, short_or_long_weekday_at};
 
 use super::weekday::Weekday;
 use scan::kind::ParseErrorKind;
-use std::convert::TryFrom;
 
 // How many letters a short name has: the first ones of the name.
 const SHORT: usize = 3;
 
-const MONTHS: [&[u8]; 12] = [
-    b"january",
-    b"february",
-    b"march",
-    b"april",
-    b"may",
-    b"june",
-    b"july",
-    b"august",
-    b"september",
-    b"october",
-    b"november",
-    b"december",
+// January is 0.
+const MONTHS: [(&[u8], u8); 12] = [
+    (b"january", 0),
+    (b"february", 1),
+    (b"march", 2),
+    (b"april", 3),
+    (b"may", 4),
+    (b"june", 5),
+    (b"july", 6),
+    (b"august", 7),
+    (b"september", 8),
+    (b"october", 9),
+    (b"november", 10),
+    (b"december", 11),
 ];
 
-const WEEKDAYS: [&[u8]; 7] = [
-    b"monday",
-    b"tuesday",
-    b"wednesday",
-    b"thursday",
-    b"friday",
-    b"saturday",
-    b"sunday",
+const WEEKDAYS: [(&[u8], Weekday); 7] = [
+    (b"monday", Weekday::Mon),
+    (b"tuesday", Weekday::Tue),
+    (b"wednesday", Weekday::Wed),
+    (b"thursday", Weekday::Thu),
+    (b"friday", Weekday::Fri),
+    (b"saturday", Weekday::Sat),
+    (b"sunday", Weekday::Sun),
 ];
 
 // Does the text begin with the word?
@@ -45,42 +44,50 @@ fn begins(s: &[u8], word: &[u8]) -> bool
         .is_some_and(|front| front.eq_ignore_ascii_case(word))
 }
 
-// The place of the name whose first three letters stand in front.
-fn short_name(names: &[&[u8]], s: &[u8]) -> Result<usize, ParseErrorKind>
-    ensures value { result ≡ short_at (texts names.now) s.now }
-    ensures cut { AreNames (texts names.now) → IfOk result (λ i. Cut s.now 3) }
-    ensures within { IfOk result (λ i. i < length names.now) }
+// The entry of a table whose name's first three letters stand in front.
+#[tactic(auto, unfolding(crate::specs::Names::entry_at))]
+fn entry<'a, T: Copy>(names: &[(&'a [u8], T)], s: &[u8]) -> Result<(&'a [u8], T), ParseErrorKind>
+    ensures { said result ≡ entry_at (entries names.now) s.now }
 {
     if s.len() < SHORT {
         return Err(ParseErrorKind::TooShort);
     }
     names
         .iter()
-        .position(|name| begins(s, &name[..name.len().min(SHORT)]))
+        .find(|(name, _)| begins(s, &name[..name.len().min(SHORT)]))
+        .copied()
         .ok_or(ParseErrorKind::Invalid)
 }
 
-// That place, and how many bytes the name takes: all of it, if all of it stands in front.
-#[tactic(auto, unfolding(crate::specs::Names::short_or_long_at))]
-fn short_or_long_name(names: &[&[u8]], s: &[u8]) -> Result<(usize, usize), ParseErrorKind>
-    ensures value { result ≡ short_or_long_at (texts names.now) s.now }
-    ensures cut { AreNames (texts names.now) → Cuts s.now result }
-    ensures within { IfOk result (λ p. p.0 < length names.now) }
+// The value of that entry; its short name is taken.
+#[tactic(auto, unfolding(crate::specs::Names::short_at))]
+fn short<T: Copy>(names: &[(&[u8], T)], s: &[u8]) -> Result<(T, usize), ParseErrorKind>
+    ensures value { result ≡ short_at (entries names.now) s.now }
+    ensures cut { AreNames (names_of (entries names.now)) → Cuts s.now result }
 {
-    let i = short_name(names, s)?;
-    let name = names[i];
+    let (_, value) = entry(names, s)?;
+    Ok((value, SHORT))
+}
+
+// The value of that entry; all of its name is taken, if all of it stands in front.
+#[tactic(auto, unfolding(crate::specs::Names::short_or_long_at))]
+fn short_or_long<T: Copy>(names: &[(&[u8], T)], s: &[u8]) -> Result<(T, usize), ParseErrorKind>
+    ensures value { result ≡ short_or_long_at (entries names.now) s.now }
+    ensures cut { AreNames (names_of (entries names.now)) → Cuts s.now result }
+{
+    let (name, value) = entry(names, s)?;
     let n = if begins(s, name) { name.len() } else { SHORT };
-    Ok((i, n))
+    Ok((value, n))
 }
 
 // A month by its first three letters, January 0.
+#[tactic(auto, unfolding(crate::specs::Names::short_month0_at))]
 pub fn short_month0(s: &[u8]) -> Result<(u8, usize), ParseErrorKind>
     ensures value { result ≡ short_month0_at s.now }
     ensures cut { Cuts s.now result }
     ensures below { IfOk result (λ p. p.0 < 12) }
 {
-    let i = short_name(&MONTHS, s)?;
-    Ok((i as u8, SHORT))
+    short(&MONTHS, s)
 }
 
 // A day of the week by its first three letters.
@@ -89,19 +96,17 @@ pub fn short_weekday(s: &[u8]) -> Result<(Weekday, usize), ParseErrorKind>
     ensures value { result ≡ short_weekday_at s.now }
     ensures cut { Cuts s.now result }
 {
-    let i = short_name(&WEEKDAYS, s)?;
-    Ok((Weekday::try_from(i as u8)?, SHORT))
+    short(&WEEKDAYS, s)
 }
 
 // A month by its name, all of it or the first three letters, January 0.
-#[tactic(auto, unfolding(crate::specs::Names::short_or_long_month0_at, crate::specs::Names::short_or_long_at))]
+#[tactic(auto, unfolding(crate::specs::Names::short_or_long_month0_at))]
 pub fn short_or_long_month0(s: &[u8]) -> Result<(u8, usize), ParseErrorKind>
     ensures value { result ≡ short_or_long_month0_at s.now }
     ensures cut { Cuts s.now result }
     ensures below { IfOk result (λ p. p.0 < 12) }
 {
-    let (i, n) = short_or_long_name(&MONTHS, s)?;
-    Ok((i as u8, n))
+    short_or_long(&MONTHS, s)
 }
 
 // A day of the week by its name, all of it or the first three letters.
@@ -110,6 +115,5 @@ pub fn short_or_long_weekday(s: &[u8]) -> Result<(Weekday, usize), ParseErrorKin
     ensures value { result ≡ short_or_long_weekday_at s.now }
     ensures cut { Cuts s.now result }
 {
-    let (i, n) = short_or_long_name(&WEEKDAYS, s)?;
-    Ok((Weekday::try_from(i as u8)?, n))
+    short_or_long(&WEEKDAYS, s)
 }

@@ -3,7 +3,6 @@ ghost use Rattle.std.specs.Prelude.{◌≡◌, ◌+◌, ◌-◌, ◌%◌, Some};
 ghost use Rattle.names.specs.Days.{day_number, day_text, DayRead};
 
 use scan::kind::ParseErrorKind;
-use std::convert::TryFrom;
 use std::fmt;
 
 // Days have no order of their own: a week may begin on any of them.
