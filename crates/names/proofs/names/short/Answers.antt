@@ -1,5 +1,6 @@
 use Rattle.std.proofs.Common.{◌≡◌, Ok, rules}
-use Rattle.scan.proofs.Leaves.{cuts_by}
+use Rattle.scan.proofs.Leaves.{made_by}
+use Rattle.text.specs.Cuts.{Cut}
 use Rattle.names.specs.Names.{entries, short_at}
 use Rattle.names.proofs.Taken.{short_at_cut}
 use Rattle.names.proofs.names.short.Goals as goal
@@ -8,4 +9,4 @@ pub returns-clause-cut : goal.returns-clause-cut
 unfolding short_at
 returns-clause-cut g c =
     let v : Ok (c.in_ok-value.value, 3) ≡ short_at (entries c.args.names.now) c.args.s.now = search rules in
-    λ a. cuts_by _ _ _ v (short_at_cut (entries c.args.names.now) c.args.s.now a)
+    λ a. made_by (λ p. Cut _ p.1) _ _ v (short_at_cut (entries c.args.names.now) c.args.s.now a)
