@@ -80,6 +80,8 @@ fn short_or_long<T: Copy>(names: &[(&[u8], T)], s: &[u8]) -> Result<(T, usize), 
     Ok((value, n))
 }
 
+// Chrono's four functions are `short` and `short_or_long` at the two tables, by its names.
+
 // A month by its first three letters, January 0.
 #[tactic(auto, unfolding(crate::specs::Names::short_month0_at))]
 pub fn short_month0(s: &[u8]) -> Result<(u8, usize), ParseErrorKind>
