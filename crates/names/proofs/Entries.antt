@@ -8,7 +8,7 @@ use Rattle.scan.specs.declared.kind.ParseErrorKind.{ParseErrorKind}
 use Rattle.scan.specs.declared.kind.ParseErrorKind.TheVariants.{Invalid, TooShort}
 use Rattle.scan.specs.Steps.{bind}
 use Rattle.scan.proofs.Leaves.{made_by}
-use Rattle.names.specs.Names.{begins_alike, entries, said, months, entry_at, short_at, taken, short_or_long_at}
+use Rattle.names.specs.Names.{begins_alike, entries, said, months, entry_at, short_at, taken, short_or_long_at, short_month0_at, short_or_long_month0_at}
 
 -- the first three letters, or all of them
 pub three : (n : List ℕ) → take (min (length n) 3) n ≡ take 3 n
@@ -65,10 +65,10 @@ module _ (s : List ℕ) (r : Result (ℕ × ℕ) ParseErrorKind) where
   below : (n : List ℕ × ℕ → ℕ) → IfOk {T = ℕ × ℕ} {E = ParseErrorKind} (bind (entry_at months s) (λ e. Ok (e.1, n e))) (λ p. p.0 < 12)
   below n = if_found (λ e. ltb e.1 12) n (λ p. p.0 < 12) months s refl (λ e b _. ltb-true _ _ b)
 
-  pub short_below : r ≡ short_at months s → IfOk r (λ p. p.0 < 12)
-  unfolding short_at
+  pub short_below : r ≡ short_month0_at s → IfOk r (λ p. p.0 < 12)
+  unfolding short_month0_at short_at
   short_below e = made_by (λ p. p.0 < 12) _ _ e (below (λ _. 3))
 
-  pub short_or_long_below : r ≡ short_or_long_at months s → IfOk r (λ p. p.0 < 12)
-  unfolding short_or_long_at
+  pub short_or_long_below : r ≡ short_or_long_month0_at s → IfOk r (λ p. p.0 < 12)
+  unfolding short_or_long_month0_at short_or_long_at
   short_or_long_below e = made_by (λ p. p.0 < 12) _ _ e (below (λ e. taken e.0 s))
