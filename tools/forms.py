@@ -15,7 +15,7 @@ LINES = [
     (1, "flag with a value beside it", r"\((bool|negative: bool),"),
     (1, "number for a kind", r"\b(field|digits|[abcd]): u(8|64)\b|\bField\(u8\)|case\.[abcd]\b|numbers\[\d\]"),
     (1, "result taken apart by hand", r"^\s*(Err|None)\b.* => |^\s*(Err|None) => "),
-    (1, "refusal returned early", r"^\s*return (Err|None|Ok\(None\))\b"),
+    (1, "refusal returned early", r"^\s*return (Err\b|None\b|Ok\(None\))"),
     (3, "loop with its index", r"\.enumerate\(\)"),
     (3, "count kept by hand", r"= \w+\.saturating_add\(1\);|\b(n|end|i) \+= "),
     (3, "loop that only searches", r"^\s*return (true|false|Some\(.*\)|Ok\(i\)|i);$"),

@@ -31,7 +31,7 @@ fn byte(pair: &[u8]) -> Option<u8> {
     Some(digit(*high)? << 4 | digit(*low)?)
 }
 
-// The bytes that hex stands for, where it is hex.
+// The bytes that hex stands for, where it is hex; `?` hands on the error of memory alone.
 fn unhex(heap: Global, hex: &str) -> Result<Option<Vec<u8>>, AllocError> {
     let mut bytes = Vec::new(heap);
     if hex == "-" {
@@ -55,7 +55,7 @@ fn precision(digits: usize) -> Precision {
     }
 }
 
-// The first number chooses the separator; of the others 1 is for yes.
+// A case names a separator by its first number; of the others 1 is for yes.
 fn offset(numbers: [usize; 4], s: &[u8]) -> Result<(i32, usize), ParseErrorKind> {
     let [separator, zulu, missing_minutes, minus_sign] = numbers;
     let (zulu, missing_minutes, minus_sign) = (zulu == 1, missing_minutes == 1, minus_sign == 1);
@@ -103,7 +103,7 @@ fn parse(line: &str) -> Option<Case<'_>> {
     Some(Case { leaf, numbers, hex })
 }
 
-// What the line's case answers; only memory can fail.
+// What the line's case answers; `?` hands on the error of memory alone.
 pub(crate) fn run(heap: Global, line: &str) -> Result<Result<Reading, Refusal>, AllocError> {
     let Some(case) = parse(line) else {
         return Ok(Err(Refusal::Unknown));

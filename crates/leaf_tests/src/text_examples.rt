@@ -1,4 +1,4 @@
-// UTF-8 by RFC 3629: its examples, and what it forbids; blanks.
+// UTF-8 by RFC 3629: its examples, and what it forbids; blanks, and runs of a class.
 ghost use Rattle.std.specs.Char.{is_ascii_digit};
 
 use text::{CharClass, blanks, check_text, first_char, non_blanks, run};

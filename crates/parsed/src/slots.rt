@@ -14,7 +14,7 @@ use names::weekday::Weekday;
 use scan::kind::ParseErrorKind;
 
 // A type that fields are kept in, whose values stand for numbers.
-// `of` and `number` are no `TryFrom` and `Into`: neither can fail, and the ghost members say what they give.
+// `of` is no `TryFrom`, since it cannot fail; what it and `number` give, the ghost members say.
 pub(crate) trait Kept: Same + Copy {
     ghost kind: { KeptAs };
 

@@ -1,4 +1,4 @@
-// Examples for records: every range at both ends, on both kinds of collectors, and what refusals leave.
+// Examples for records: every range at both ends, on both kinds of collectors, what refusals leave, and fields, setters and faults made of other values.
 #![tactic(auto)]
 
 #[cfg(test)]

@@ -1,4 +1,4 @@
-// Text: which bytes are UTF-8, the character that stands in front, and blanks.
+// Text: which bytes are UTF-8, the character that stands in front, blanks, and runs of a class of characters.
 #![tactic(auto)]
 
 ghost use Rattle.std.specs.Prelude.{◌≡◌, ℕ, Bool};

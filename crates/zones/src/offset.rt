@@ -28,7 +28,7 @@ fn sign_of(c: char) -> Option<Sign>
     }
 }
 
-// The sign in front: is it negative, and how many bytes has it?
+// The sign in front: is it negative (chrono's flag), and how many bytes has it?
 #[tactic(auto, using(crate::proofs::Places::sign_none, crate::proofs::Places::sign_some))]
 fn leading_sign(s: &[u8], allow_tz_minus_sign: bool) -> Result<(bool, usize), ParseErrorKind>
     ensures value { result ≡ sign_at allow_tz_minus_sign s.now }
@@ -124,6 +124,7 @@ pub(super) fn in_seconds(negative: bool, seconds: u32) -> i32
     requires { seconds < 1000000 }
     ensures { result ≡ signed negative seconds }
 {
+    // there is no `From<u32> for i32`
     let seconds = seconds as i32;
     if negative { -seconds } else { seconds }
 }
