@@ -1,4 +1,4 @@
-// Values that `==` tells apart, and a slot that keeps its first one.
+// Values that can be told apart, and a slot that keeps its first one.
 ghost use Rattle.std.specs.Prelude.{◌≡◌, Decides};
 ghost use Rattle.std.specs.Cmp.{signed_Decides, unsigned_Decides};
 ghost use Rattle.std.proofs.Common.{rules};
@@ -11,24 +11,37 @@ use collect::field::Field;
 use names::weekday::Weekday;
 use scan::kind::ParseErrorKind;
 
+// Values that can be told apart.
+pub trait Same {
+    // Are they the same value?
+    fn same(&self, other: &Self) -> bool
+        ensures { Decides result (self.now ≡ other.now) };
+}
+
 // `==` says yes exactly for the same value.
-pub trait Same: PartialEq {
+pub trait Exact: PartialEq {
     ghost exact: { (a b : Self) → Decides (Self.eq a b) (a ≡ b) };
 }
 
-impl Same for i32 {
+impl<T: Exact> Same for T {
+    fn same(&self, other: &T) -> bool {
+        *self == *other
+    }
+}
+
+impl Exact for i32 {
     ghost exact = { signed_Decides };
 }
 
-impl Same for u32 {
+impl Exact for u32 {
     ghost exact = { unsigned_Decides };
 }
 
-impl Same for i64 {
+impl Exact for i64 {
     ghost exact = { signed_Decides };
 }
 
-impl Same for Weekday {
+impl Exact for Weekday {
     ghost exact = { Prim.search rules };
 }
 
@@ -41,7 +54,7 @@ pub fn set_if_consistent<T: Same + Drop>(
     ensures { Put old.old new (field_number field) (verdict result) old.new }
 {
     match old {
-        Some(held) if *held == new => Ok(()),
+        Some(held) if held.same(&new) => Ok(()),
         Some(_) => Err(Cause::of_field(ParseErrorKind::Impossible, field)),
         None => {
             *old = Some(new);

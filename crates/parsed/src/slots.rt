@@ -7,7 +7,7 @@ ghost use Rattle.collect.specs.Faults.{verdict};
 ghost use Rattle.collect.specs.Fields.{field_number};
 ghost use Rattle.parsed.specs.Slots.{Slotted, KeptAs, Holds, kept_as, signed, counted, wide, a_day};
 
-use super::same::{Same, set_if_consistent};
+use super::same::{Exact, set_if_consistent};
 use collect::fault::Cause;
 use collect::field::Field;
 use names::weekday::Weekday;
@@ -15,7 +15,7 @@ use scan::kind::ParseErrorKind;
 
 // A type that fields are kept in, whose values stand for numbers.
 // `of` is no `TryFrom`, since it cannot fail; what it and `number` give, the ghost members say.
-pub(crate) trait Kept: Same + Copy {
+pub(crate) trait Kept: Exact + Copy {
     ghost kind: { KeptAs };
 
     // What a value stands for.
