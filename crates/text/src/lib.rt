@@ -94,7 +94,7 @@ pub fn non_blanks(s: &[u8]) -> usize
 pub fn is_blank(c: char) -> bool
     ensures { result ≡ blank c }
 {
-    WHITE_SPACE.contains(&c)
+    WHITE_SPACE.iter().any(|b| c == *b)
 }
 
 // Are the bytes text? If not, how long is the longest beginning that is?
