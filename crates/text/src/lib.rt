@@ -102,7 +102,5 @@ pub fn check_text(bytes: &[u8]) -> Result<(), usize>
     ensures value { result ≡ text_check bytes.now }
     ensures meaning { Checked bytes.now result }
 {
-    std::str::from_utf8(bytes)
-        .map_err(|e| e.valid_up_to())
-        .map(|_| ())
+    std::str::from_utf8(bytes).map_or_else(|e| Err(e.valid_up_to()), |_| Ok(()))
 }
