@@ -94,7 +94,7 @@ pub fn non_blanks(s: &[u8]) -> usize
 pub fn is_blank(c: char) -> bool
     ensures { result ≡ blank c }
 {
-    WHITE_SPACE.contains(&c)
+    WHITE_SPACE.iter().any(|b| c == *b)
 }
 
 // Are the bytes text? If not, how long is the longest beginning that is?
@@ -102,7 +102,5 @@ pub fn check_text(bytes: &[u8]) -> Result<(), usize>
     ensures value { result ≡ text_check bytes.now }
     ensures meaning { Checked bytes.now result }
 {
-    std::str::from_utf8(bytes)
-        .map_err(|e| e.valid_up_to())
-        .map(|_| ())
+    std::str::from_utf8(bytes).map_or_else(|e| Err(e.valid_up_to()), |_| Ok(()))
 }
