@@ -71,7 +71,7 @@ nothing t r f h = go (t f) refl
     go (Some v) e = absurd (let z : ◌≡◌ {A = Bool} false true = sym (ap (λ y. within y v) h) ∙ r f v e in grind arith)
 
 -- tables that agree on the fields are the same
-same_tables : (t u : Table ℤ) → Ranged t → Ranged u → ((f : ℕ) → f < 22 → t f ≡ u f) → t ≡ u
+pub same_tables : (t u : Table ℤ) → Ranged t → Ranged u → ((f : ℕ) → f < 22 → t f ≡ u f) → t ≡ u
 same_tables t u r q h = λ i f. by f i
   where
     by : (f : ℕ) → t f ≡ u f

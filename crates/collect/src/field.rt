@@ -113,7 +113,7 @@ impl Field {
         ensures { result ≡ fits (field_number self) value }
     {
         let (low, high) = self.range();
-        (low..=high).contains(&value)
+        low <= value && value <= high
     }
 
     // As chrono calls it.

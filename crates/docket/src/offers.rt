@@ -20,7 +20,12 @@ use std::alloc::{AllocError, Global};
 fn sought(entries: &[Entry], field: u8) -> Option<i64>
     ensures { result ≡ look entries.now field }
 {
-    entries.iter().find(|e| e.field == field).map(|e| e.value)
+    for e in entries {
+        if e.field == field {
+            return Some(e.value);
+        }
+    }
+    None
 }
 
 impl Docket {

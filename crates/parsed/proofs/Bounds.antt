@@ -1,10 +1,8 @@
 -- The values of each field fit the type that it is kept in.
-use Rattle.std.proofs.Common.{◌≡◌, true, false, ℤ, Option, Err, sym, ap, ◌∙◌, subst, arith, FitsSigned, w64, to_z, of_z}
+use Rattle.std.proofs.Common.{◌≡◌, true, false, ℤ, Option, sym, ◌∙◌, subst, arith, FitsSigned, w64, to_z, of_z}
 use Rattle.std.proofs.lemmas.Int.{ints, to_z-of_z}
 use Rattle.collect.specs.Fields.{field_number, range, fits}
-use Rattle.collect.specs.Faults.{verdict, of_field}
-use Rattle.collect.specs.declared.fault.Cause.{Cause}
-use Rattle.scan.specs.declared.kind.ParseErrorKind.TheVariants.{OutOfRange}
+use Rattle.collect.specs.Judge.{Verdict, refused}
 use Rattle.collect.proofs.Ranges.{named_field}
 use Rattle.collect.specs.declared.field.Field.{Field}
 use Rattle.collect.specs.declared.field.Field.TheVariants.{Year, YearDiv100, YearMod100, Isoyear, IsoyearDiv100, IsoyearMod100, Quarter, Month, WeekFromSun, WeekFromMon, Isoweek, Weekday, Ordinal, Day, HourDiv12, HourMod12, Minute, Second, Nanosecond, Timestamp, Offset}
@@ -38,7 +36,7 @@ pub bounds_as : (x : Field) (k : KeptAs) (v : ℤ) → kept_as x ≡ k → true 
 bounds_as x k v e h = subst (λ y. Holds y v) e (bounds x v (sym h))
 
 -- a value that its field may not hold, which went through its bits, is refused as out of range
-pub refused_outside : {old : Option ℤ} {v : ℤ} {w : Cause} (x : Field) → FitsSigned w64 v → false ≡ fits (field_number x) (to_z w64 (of_z w64 v)) → w ≡ of_field OutOfRange (field_number x) → Slotted old (field_number x) v (verdict (Err w)) old
-refused_outside {old} {v} {w} x r h e =
+pub refused_outside : {old : Option ℤ} {v : ℤ} {a : Verdict} (x : Field) → FitsSigned w64 v → false ≡ fits (field_number x) (to_z w64 (of_z w64 v)) → a ≡ refused 1 4 (field_number x) → Slotted old (field_number x) v a old
+refused_outside {old} {v} {a} x r h e =
     let n = named_field x in
-    record { answer = ap (λ y. verdict (Err y)) e ∙ grind (arith, to_z-of_z); after = grind (arith, to_z-of_z) }
+    record { answer = e ∙ grind (arith, to_z-of_z); after = grind (arith, to_z-of_z) }

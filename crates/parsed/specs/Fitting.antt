@@ -1,6 +1,6 @@
 -- What a record holds lies in its fields' ranges.
 use Rattle.std.specs.Prelude.{◌≡◌, ℕ, zero, suc, ◌+◌, true, List, [], ◌∷◌, get_or, ℤ, Some, None, Option, slice_index_or, refl}
-use Rattle.std.proofs.Common.{sym, subst, zero-add, add-zero, arith}
+use Rattle.std.proofs.Common.{sym, ap, ◌∙◌, subst, zero-add, add-zero, arith}
 use Rattle.std.proofs.lemmas.Bool.{and_parts}
 use Rattle.collect.specs.Fields.{fits}
 use Rattle.collect.specs.Judge.{Ranged}
@@ -17,3 +17,7 @@ some_held k v x e h = subst (λ y. held k y ≡ true) e h
 
 pub fit_ranged : (fs : List (Option ℤ)) → all_fit 0 fs ≡ true → Ranged (λ f. get_or fs f None)
 fit_ranged fs h f v e = some_held f v (slice_index_or fs f None) e (subst (λ m. held m (slice_index_or fs f None) ≡ true) (zero-add f) (held_at 0 fs f h))
+
+-- what is asked of the field of a number
+pub asked : (fs : List (Option ℤ)) (k n : ℕ) (r : Option ℤ) → k ≡ n → r ≡ slice_index_or fs k None → r ≡ slice_index_or fs n None
+asked fs k n r p e = e ∙ ap (λ j. get_or fs j None) p
