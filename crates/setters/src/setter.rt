@@ -120,8 +120,9 @@ impl FromStr for Setter {
 
     fn from_str(name: &str) -> Result<Setter, UnknownSetter> {
         Setter::ALL
-            .into_iter()
+            .iter()
             .find(|setter| setter.name() == name)
+            .map(|setter| *setter)
             .ok_or(UnknownSetter)
     }
 }

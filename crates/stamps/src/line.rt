@@ -1,4 +1,10 @@
 // One line: a word, blanks, and what the word says.
+ghost use Rattle.std.specs.Prelude.{◌≡◌, ℕ, MatchResult, Err};
+ghost use Rattle.std.specs.Str.{valid_up_to};
+ghost use Rattle.text.specs.Chars.{text_check};
+ghost use Rattle.stamps.specs.Lines.{not_text, AsText, NoText};
+ghost use Rattle.stamps.specs.declared.line.Reason.TheVariants.{Kind};
+
 use super::form::{Form, Value, read};
 use super::record::{Command, Verb, command_of};
 use scan::kind::ParseErrorKind;
@@ -74,6 +80,8 @@ impl fmt::Display for Reason {
 }
 
 impl From<ParseErrorKind> for Reason {
+    ghost from_gives = { λ k r. r ≡ Kind k };
+
     fn from(kind: ParseErrorKind) -> Reason {
         Reason::Kind(kind)
     }
@@ -106,7 +114,10 @@ pub(crate) struct Refusal {
 }
 
 impl Refusal {
-    pub(crate) fn at<R: Into<Reason>>(place: usize, reason: R) -> Refusal {
+    pub(crate) fn at<R: Into<Reason>>(place: usize, reason: R) -> Refusal
+        ensures reason { R.Into.converts reason result.reason }
+        ensures place { result.place ≡ place }
+    {
         Refusal {
             reason: reason.into(),
             place,
@@ -115,6 +126,8 @@ impl Refusal {
 }
 
 impl From<Utf8Error> for Refusal {
+    ghost from_gives = { λ e r. r ≡ not_text (valid_up_to e) };
+
     fn from(error: Utf8Error) -> Refusal {
         Refusal::at(error.valid_up_to(), ParseErrorKind::NotText)
     }
@@ -130,8 +143,17 @@ impl fmt::Display for Refusal {
     }
 }
 
-pub(crate) fn read_line(bytes: &[u8]) -> Result<Line<'_>, Refusal> {
-    let line = std::str::from_utf8(bytes)?;
+// The line as text; where it is none, how far it is.
+fn as_text(bytes: &[u8]) -> Result<&str, Refusal>
+    ensures { MatchResult result (λ t. AsText bytes.now t.now) (λ r. NoText bytes.now r) }
+{
+    Ok(std::str::from_utf8(bytes)?)
+}
+
+pub(crate) fn read_line(bytes: &[u8]) -> Result<Line<'_>, Refusal>
+    ensures { (n : ℕ) → text_check bytes.now ≡ Err n → result ≡ Err (not_text n) }
+{
+    let line = as_text(bytes)?;
     let (word, rest) = line.split_at(text::non_blanks(line.as_bytes()));
     let (blanks, rest) = rest.split_at(text::blanks(rest.as_bytes()));
     let place = word.len() + blanks.len();
