@@ -1,7 +1,7 @@
 -- Digits: one more, the end, how large a number is, and where it cuts.
-use Rattle.std.proofs.Common.{◌≡◌, ℕ, suc, ◌+◌, ◌-◌, ◌*◌, ◌^◌, ◌<◌, ◌≤◌, true, false, cond, ltb, leb, List, [], ◌∷◌, length, get_or, take, drop, ℤ, pos, ◌+ℤ◌, ◌*ℤ◌, Some, None, Option, IfOk, Ok, Err, Result, sym, refl, ap, ◌∙◌, subst, ⊎_elim, mul-le-mul_right, mul_assoc, mul_comm, one-mul, pow-suc, mul-one, min, arith, w64, SFits, to_z, of_z}
+use Rattle.std.proofs.Common.{◌≡◌, ℕ, suc, ◌+◌, ◌-◌, ◌*◌, ◌^◌, ◌<◌, ◌≤◌, true, false, cond, ltb, leb, List, [], ◌∷◌, length, get_or, take, drop, ℤ, pos, ◌+ℤ◌, ◌*ℤ◌, Some, None, Option, IfOk, Ok, Err, Result, sym, refl, ap, ◌∙◌, subst, ⊎_elim, mul-le-mul_right, mul_assoc, mul_comm, one-mul, pow-suc, mul-one, arith, w64, SFits, to_z, of_z}
 use native.Mathlib.Nat.{pow-zero}
-use Rattle.std.proofs.lemmas.List.{at_drop_more, at_drop_all, length-take, get_or-take}
+use Rattle.std.proofs.lemmas.List.{at_drop_more, at_drop_all}
 use Rattle.std.proofs.lemmas.Int.{to_z_pos}
 use Rattle.std.proofs.lemmas.Bool.{cases_lt, cond_both, leb-true, leb-false, and_parts}
 use Rattle.std.proofs.lemmas.Bool.Decides.{nat_tests}
@@ -71,43 +71,41 @@ pub starts : (lo hi : ℕ) (s : List ℕ) → lo ≤ length s → Reads lo hi s 
 unfolding numeral_at
 starts lo hi s h = record { value = 0; is = refl; small = omega arith; left = grind (arith, nat_tests) }
 
-module _ {lo hi m i : ℕ} {s : List ℕ} {z : ℤ} (inv : Reads lo hi s z i) (front : m ≡ min (length s) hi) where
-  -- while bytes of the front are left, the next one gives it
-  pub turn : i < length (take m s)
-      → as_integer (cond (is_ascii_digit (get_or (take m s) i 0))
-      (cond (leb (inv.value * 10 + (get_or (take m s) i 0 - 48)) largest) (numeral_from lo hi (inv.value * 10 + (get_or (take m s) i 0 - 48)) (i + 1) (drop (i + 1) s)) (Err OutOfRange))
+module _ {lo hi i : ℕ} {s : List ℕ} {z : ℤ} (inv : Reads lo hi s z i) where
+  -- while bytes are left, and as many as may be are not yet read, the next one gives it
+  pub turn : i < length s → i < hi
+      → as_integer (cond (is_ascii_digit (get_or s i 0))
+      (cond (leb (inv.value * 10 + (get_or s i 0 - 48)) largest) (numeral_from lo hi (inv.value * 10 + (get_or s i 0 - 48)) (i + 1) (drop (i + 1) s)) (Err OutOfRange))
       (cond (ltb i lo) (Err Invalid) (Ok (inv.value, i))))
       ≡ number_at lo hi s
-  turn l =
-      let t = length-take m s in
-      let g : get_or (take m s) i 0 ≡ get_or s i 0 = get_or-take m s i 0 (omega arith) in
+  turn l h =
       let q : leb hi i ≡ false = grind (arith, nat_tests) in
-      rw g (rw (one_more lo hi inv.value i s (omega arith), q) at inv.left)
+      rw (one_more lo hi inv.value i s l, q) at inv.left
 
   -- a digit refuses it by its size, or is read
-  pub digit : (t r : Option ℤ) → i < length (take m s) → true ≡ is_ascii_digit (get_or (take m s) i 0) → SomeIff t (SFits w64 (z *ℤ pos 10)) (z *ℤ pos 10)
-      → MatchOption t (r ≡ None) (λ x. SomeIff r (SFits w64 (to_z w64 (of_z w64 x) +ℤ pos (get_or (take m s) i 0 - 48))) (to_z w64 (of_z w64 x) +ℤ pos (get_or (take m s) i 0 - 48)))
+  pub digit : (t r : Option ℤ) → i < length s → i < hi → true ≡ is_ascii_digit (get_or s i 0) → SomeIff t (SFits w64 (z *ℤ pos 10)) (z *ℤ pos 10)
+      → MatchOption t (r ≡ None) (λ x. SomeIff r (SFits w64 (to_z w64 (of_z w64 x) +ℤ pos (get_or s i 0 - 48))) (to_z w64 (of_z w64 x) +ℤ pos (get_or s i 0 - 48)))
       → MatchOption r (Err OutOfRange ≡ number_at lo hi s) (λ x. Reads lo hi s (to_z w64 (of_z w64 x)) (i + 1))
-  digit t None l d f g =
-      let h = grown z inv.value _ t None inv.is f g in
-      let k : leb (inv.value * 10 + (get_or (take m s) i 0 - 48)) largest ≡ false = grind (arith, nat_tests) in
-      rw (← d, k) at (turn l)
-  digit t (Some x) l d f g =
-      let h = grown z inv.value _ t (Some x) inv.is f g in
-      let w = inv.value * 10 + (get_or (take m s) i 0 - 48) in
-      let u = h.1 in
+  digit t None l h d f g =
+      let e = grown z inv.value _ t None inv.is f g in
+      let k : leb (inv.value * 10 + (get_or s i 0 - 48)) largest ≡ false = grind (arith, nat_tests) in
+      rw (← d, k) at (turn l h)
+  digit t (Some x) l h d f g =
+      let e = grown z inv.value _ t (Some x) inv.is f g in
+      let w = inv.value * 10 + (get_or s i 0 - 48) in
+      let u = e.1 in
       let k : leb w largest ≡ true = grind (arith, nat_tests) in
-      record { value = w; is = rw (h.0, to_z_pos w64 w (omega arith)) refl; small = u; left = rw (← d, k) at (turn l) }
+      record { value = w; is = rw (e.0, to_z_pos w64 w (omega arith)) refl; small = u; left = rw (← d, k) at (turn l h) }
 
-  -- and behind it, what is read is the whole
-  pub ends : i ≡ length (take m s) → Ok (z, length (take m s)) ≡ number_at lo hi s
-  ends l =
-      let t = length-take m s in
-      let e : numeral_from lo hi inv.value i (drop i s) ≡ Ok (inv.value, i) = ⊎_elim
-      (λ h. let q : leb hi i ≡ true = grind (arith, nat_tests) in rw (one_more lo hi inv.value i s h, q) refl)
-      (λ h. no_more lo hi inv.value i s h)
-      (cases_lt i (length s)) in
-      rw (← l, inv.is) (rw e at inv.left)
+  -- where as many are read as may be, what is read is the whole
+  pub full : i < length s → hi ≤ i → Ok (z, i) ≡ number_at lo hi s
+  full l h =
+      let q : leb hi i ≡ true = grind (arith, nat_tests) in
+      rw inv.is (rw (one_more lo hi inv.value i s l, q) at inv.left)
+
+  -- and where none is left
+  pub ends : i ≡ length s → Ok (z, length s) ≡ number_at lo hi s
+  ends l = rw (← l, inv.is) (rw (no_more lo hi inv.value i s (omega arith)) at inv.left)
 
 -- ---- how large it is, and where it cuts
 -- from v and n on, k more digits

@@ -15,9 +15,12 @@ pub fn number(s: &[u8], min: usize, max: usize) -> Result<(i64, usize), ParseErr
     if s.len() < min {
         return Err(ParseErrorKind::TooShort);
     }
-    let front = &s[..s.len().min(max)];
     let mut n: i64 = 0;
-    for (i, b) in front.iter().enumerate() {
+    // the bound is asked in the loop: behind a cut to `max` bytes a fraction takes twice the time
+    for (i, b) in s.iter().enumerate() {
+        if i >= max {
+            return Ok((n, i));
+        }
         if !b.is_ascii_digit() {
             return if i < min {
                 Err(ParseErrorKind::Invalid)
@@ -30,7 +33,7 @@ pub fn number(s: &[u8], min: usize, max: usize) -> Result<(i64, usize), ParseErr
             .and_then(|n| n.checked_add(i64::from(*b - b'0')))
             .ok_or(ParseErrorKind::OutOfRange)?;
     }
-    Ok((n, front.len()))
+    Ok((n, s.len()))
 }
 
 // How many digits stand in front.
