@@ -113,6 +113,7 @@ impl Field {
         ensures { result ≡ fits (field_number self) value }
     {
         let (low, high) = self.range();
+        // by a range that contains the value, the ranges are no look-up of constants
         low <= value && value <= high
     }
 

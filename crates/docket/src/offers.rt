@@ -16,7 +16,7 @@ use collect::field::Field;
 use scan::kind::ParseErrorKind;
 use std::alloc::{AllocError, Global};
 
-// The value of a field, if an entry has one.
+// The value of a field, if an entry has one. By the library's search an offer takes twice the time.
 fn sought(entries: &[Entry], field: u8) -> Option<i64>
     ensures { result ≡ look entries.now field }
 {
